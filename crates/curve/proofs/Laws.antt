@@ -1,0 +1,283 @@
+-- What the stores of the functions come to. Assumes nothing.
+use mathlib.Core.Path.{_≡_, refl, sym, ap, _∙_, subst}
+use mathlib.Core.Logic.{_⊎_, inl, inr, ⊎-elim}
+use mathlib.Core.List.{List}
+use Prim.Native.Nat.{ℕ, zero, suc, _+_, _*_, _-_, _≤_, _<_}
+use native.Mathlib.Omega.{arith}
+use lib.ListN.{length, getD, set, length-set}
+use lib.Seq.{getD-set-same, getD-set-other}
+use Rattle.integers.specs.Rep.{le-or-lt}
+use Rattle.quadratic.specs.declared.Quad.{Quad}
+use mathlib.Core.Bool.{Bool, true, false}
+use lib.Dec.{eqb, leb}
+use borrow.Author.Tests.{le-leb, lt-leb}
+use Rattle.quadratic.specs.Quad.{Small, Sized, Fine, Stays, Under, Over, up, down, value, pick, better, raised, none, flat, moved, mirrored}
+use Rattle.curve.specs.Pieces.{endOf, startOf, quadAt, piece, Formed, Built, Is, Kept, Same, Stored, Appended, Emits, Made, Lent, Copyable, Copied, shiftOf, mirrorOf, Turnable}
+use Rattle.curve.specs.Lists.{start-next, start-zero, count-le, end-lt, piece-at, same-quad, built-put, built-longer, kept-same, kept-refl, kept-then, kept-wider, kept-lent, same-end, same-start, opened, count-same, count-most, built-most, emits-none, emits-append}
+
+pub set-kept : (ws : List ℕ) (i v : ℕ) → Kept ws (set ws i v) i 1
+set-kept ws i v = record { size = simp length-set; before = λ j h. getD-set-other ws i j v 0 (λ e. omega arith); after = λ j h. getD-set-other ws i j v 0 (λ e. omega arith) }
+
+module _ (ws : List ℕ) (at : ℕ) (end : ℕ) (q : Quad) (h : at + 4 ≤ length ws) where
+  w1 : List ℕ
+  w1 = set ws at end
+
+  w2 : List ℕ
+  w2 = set (set ws at end) (at + 1) (q .a)
+
+  w3 : List ℕ
+  w3 = set (set (set ws at end) (at + 1) (q .a)) (at + 2) (q .z)
+
+  put4 : List ℕ
+  put4 = set (set (set (set ws at end) (at + 1) (q .a)) (at + 2) (q .z)) (at + 3) (q .c)
+
+  other : (l : List ℕ) (i j v : ℕ) → (j ≡ i → ⊥) → getD (set l i v) j 0 ≡ getD l j 0
+  other l i j v ne = getD-set-other l i j v 0 ne
+
+  ea : getD (set (set (set (set ws at end) (at + 1) (q .a)) (at + 2) (q .z)) (at + 3) (q .c)) (at + 1) 0 ≡ q .a
+  unfolding w1 w2 w3
+  ea = other w3 (at + 3) (at + 1) (q .c) (λ e. omega arith) ∙ other w2 (at + 2) (at + 1) (q .z) (λ e. omega arith) ∙ getD-set-same w1 (at + 1) (q .a) 0 (simp length-set (omega arith))
+
+  ez : getD (set (set (set (set ws at end) (at + 1) (q .a)) (at + 2) (q .z)) (at + 3) (q .c)) (at + 2) 0 ≡ q .z
+  unfolding w1 w2 w3
+  ez = other w3 (at + 3) (at + 2) (q .c) (λ e. omega arith) ∙ getD-set-same w2 (at + 2) (q .z) 0 (simp length-set (omega arith))
+
+  ec : getD (set (set (set (set ws at end) (at + 1) (q .a)) (at + 2) (q .z)) (at + 3) (q .c)) (at + 3) 0 ≡ q .c
+  unfolding w1 w2 w3
+  ec = getD-set-same w3 (at + 3) (q .c) 0 (simp length-set (omega arith))
+
+  ee : getD (set (set (set (set ws at end) (at + 1) (q .a)) (at + 2) (q .z)) (at + 3) (q .c)) at 0 ≡ end
+  unfolding w1 w2 w3
+  ee = other w3 (at + 3) at (q .c) (λ e. omega arith) ∙ other w2 (at + 2) at (q .z) (λ e. omega arith) ∙ other w1 (at + 1) at (q .a) (λ e. omega arith) ∙ getD-set-same ws at end 0 (omega arith)
+
+  pub stored : Stored ws (set (set (set (set ws at end) (at + 1) (q .a)) (at + 2) (q .z)) (at + 3) (q .c)) at end q
+  unfolding w1 w2 w3
+  stored = record {
+    kept = kept-then (kept-then (kept-then (kept-wider at 4 (set-kept ws at end) (omega arith) (omega arith)) (set-kept w1 (at + 1) (q .a)) (omega arith) (omega arith)) (set-kept w2 (at + 2) (q .z)) (omega arith) (omega arith)) (set-kept w3 (at + 3) (q .c)) (omega arith) (omega arith);
+    last = ee;
+    quad = rw (ea, ez, ec);
+  }
+
+-- ---- append
+pub appended-new : (ws ws′ : List ℕ) (dst n end : ℕ) (q : Quad) → Stored ws ws′ (dst + 4 * n) end q → Appended ws ws′ dst n end q (n + 1)
+appended-new ws ws′ dst n end q s = record {
+  count = omega arith;
+  grows = omega arith;
+  kept = kept-wider dst (4 * (n + 1)) (s .kept) (omega arith) (omega arith);
+  built = λ F x g f b. built-put ws′ end b (kept-same (4 * n) (s .kept) (inl (omega arith))) (s .last) g (λ j u v. s .quad ∙ f j u v);
+}
+
+pub appended-longer : (ws : List ℕ) (dst m end : ℕ) (q : Quad) → dst + 4 * (m + 2) ≤ length ws → quadAt ws (dst + 4 * m) ≡ q → Appended ws (set ws (dst + 4 * m) end) dst (m + 1) end q (m + 1)
+appended-longer ws dst m end q l e = record {
+  count = omega arith;
+  grows = omega arith;
+  kept = kept-wider dst (4 * (m + 1)) (set-kept ws (dst + 4 * m) end) (omega arith) (omega arith);
+  built = λ F x g f b. built-longer (set ws (dst + 4 * m) end) m end b (kept-same (4 * m) (set-kept ws (dst + 4 * m) end) (inl (omega arith)))
+      (getD-set-same ws (dst + 4 * m) end 0 (omega arith)) g
+      (words (dst + 4 * m))
+      (λ j u v. e ∙ f j u v);
+}
+  where
+    words : (i : ℕ) → quadAt (set ws i end) i ≡ quadAt ws i
+    words i = rw (getD-set-other ws i (i + 1) end 0 (λ e. omega arith), getD-set-other ws i (i + 2) end 0 (λ e. omega arith), getD-set-other ws i (i + 3) end 0 (λ e. omega arith))
+
+pub appended-back : (ws : List ℕ) (dst n end : ℕ) (q : Quad) → 0 < n → dst + 4 * (n + 1) ≤ length ws → quadAt ws (dst + 4 * (n - 1)) ≡ q → Appended ws (set ws (dst + 4 * (n - 1)) end) dst n end q n
+appended-back ws dst n end q p l e =
+    let s : n - 1 + 1 ≡ n = omega arith in
+    subst (λ (k : ℕ). Appended ws (set ws (dst + 4 * (n - 1)) end) dst k end q k) s (appended-longer ws dst (n - 1) end q (omega arith) e)
+
+mk : ℕ → ℕ → ℕ → Quad
+mk a z c = record { a = a; z = z; c = c }
+
+pub quad-eq : (p q : Quad) → p .a ≡ q .a → p .z ≡ q .z → p .c ≡ q .c → p ≡ q
+unfolding mk
+quad-eq p q ea ez ec = ap (λ (x : ℕ). mk x (p .z) (p .c)) ea ∙ ap (λ (x : ℕ). mk (q .a) x (p .c)) ez ∙ ap (λ (x : ℕ). mk (q .a) (q .z) x) ec
+
+-- ---- the better of two
+pub small : {q : Quad} → Sized q → Small q
+small s = record { count = s .count; sum = s .sum; rest = omega (arith, s .rest) }
+
+pub small-more : {q : Quad} → Sized q → Small (record { a = q .a; z = q .z; c = q .c + 1 })
+small-more s = record { count = s .count; sum = s .sum; rest = omega (arith, s .rest) }
+
+pub better-first : (p q : Quad) (base a y r : ℕ) → Stays p q (base + a) (base + y) r → (j : ℕ) → a ≤ j → j ≤ r - base → p ≡ better (base + j) p q
+better-first p q base a y r t j u v = sym (ap (λ (b : Bool). pick b p q) (le-leb _ _ (t .under (base + j) (omega arith) (omega (arith, t .low)))))
+
+pub better-second : (p q : Quad) (base a y r : ℕ) → Stays (record { a = q .a; z = q .z; c = q .c + 1 }) p (base + a) (base + y) r → (j : ℕ) → a ≤ j → j ≤ r - base → q ≡ better (base + j) p q
+better-second p q base a y r t j u v =
+    let o : Over p q (base + j) = omega (arith, t .under (base + j) (omega arith) (omega (arith, t .low))) in
+    sym (ap (λ (b : Bool). pick b p q) (lt-leb _ _ o))
+
+small-pick : (b : Bool) (k : ℕ) (q : Quad) → Sized (pick b q (record { a = q .a; z = q .z; c = q .c + k })) → Small q
+small-pick true k q s = small s
+small-pick false k q s = record { count = s .count; sum = s .sum; rest = omega (arith, s .rest) }
+
+pub small-raised : (k : ℕ) (q : Quad) → Sized (raised k q) → Small q
+small-raised k q s = small-pick (eqb (q .c) none) k q s
+
+-- ---- reading along a list: x is a level of the ith piece, or the list is at its end
+pub record At (ws : List ℕ) (o L i x : ℕ) : Type 0 where
+  pub formed : Formed ws o L
+  pub inside : i ≤ formed .count
+  pub low : startOf ws o i ≤ x
+  pub high : i < formed .count → x ≤ endOf ws o i
+
+pub at-start : {ws : List ℕ} {o L : ℕ} → Formed ws o L → At ws o L 0 0
+at-start {ws} {o} f = record { formed = f; inside = omega arith; low = omega (arith, start-zero ws o); high = λ h. omega arith }
+
+-- what the piece there is
+pub record Here (ws : List ℕ) (o L i x : ℕ) : Type 0 where
+  pub index : i < L
+  pub within : (f : Formed ws o L) → i < f .count
+  pub start : startOf ws o i ≤ x
+  pub from : x ≤ endOf ws o i
+  pub to : endOf ws o i < L
+  pub is : (j : ℕ) → x ≤ j → j ≤ endOf ws o i → piece ws o L j ≡ quadAt ws (o + 4 * i)
+
+pub here : {ws : List ℕ} {o L i x : ℕ} → At ws o L i x → x < L → Here ws o L i x
+here {ws} {o} {L} {i} {x} a h = record {
+  index = omega (arith, less, inside);
+  within = λ g. omega (arith, inside, count-same f g);
+  start = a .low;
+  from = a .high inside;
+  to = omega (arith, end-lt ws o (f .count) (f .rising) i (f .count) inside (omega arith), f .ends);
+  is = λ j p q. piece-at ws o L (f .count) i j (f .rising) less inside (omega (arith, a .low)) q;
+}
+  where
+    f : Formed ws o L
+    f = a .formed
+
+    less : f .count ≤ L
+    less = omega (arith, count-le ws o (f .count) (f .rising), f .ends)
+
+    inside : i < f .count
+    inside = ⊎-elim (λ p. absurd (past p)) (λ p. p) (le-or-lt (f .count) i)
+      where
+        past : f .count ≤ i → ⊥
+        past p = let e : i ≡ f .count = omega (arith, a .inside) in let l : startOf ws o (f .count) ≤ x = rw e at (a .low) in omega (arith, f .ends)
+
+pub at-step : {ws : List ℕ} {o L i x : ℕ} (y r : ℕ) → At ws o L i x → x < L → x ≤ y → y ≤ endOf ws o i → ((endOf ws o i ≡ y) × (r ≡ i + 1)) ⊎ ((endOf ws o i ≡ y → ⊥) × (r ≡ i)) → At ws o L r (y + 1)
+at-step {ws} {o} {L} {i} {x} y r a h g k (inl p) =
+    let n : startOf ws o (i + 1) ≡ y + 1 = start-next ws o i ∙ ap (λ (m : ℕ). m + 1) (p .0) in
+    rw (p .1) (record {
+      formed = a .formed;
+      inside = in-next;
+      low = omega arith;
+      high = λ u. omega (arith, a .formed .rising (i + 1) u);
+    })
+  where
+    in-next : i + 1 ≤ a .formed .count
+    in-next = ⊎-elim (λ q. absurd (past q)) (λ q. omega arith) (le-or-lt (a .formed .count) i)
+      where
+        past : a .formed .count ≤ i → ⊥
+        past q = let e : i ≡ a .formed .count = omega (arith, a .inside) in let l : startOf ws o (a .formed .count) ≤ x = rw e at (a .low) in omega (arith, a .formed .ends)
+at-step {ws} {o} {L} {i} {x} y r a h g k (inr p) =
+    let n = p .0 in
+    rw (p .1) (record { formed = a .formed; inside = a .inside; low = omega (arith, a .low); high = λ u. omega arith })
+
+-- the same, read where the list at dst has been written to
+pub record Seen (ws₀ ws : List ℕ) (o L i x : ℕ) : Type 0 where
+  pub index : i < L
+  pub within : (f : Formed ws₀ o L) → i < f .count
+  pub room : o + 4 * i + 4 ≤ length ws
+  pub from : x ≤ endOf ws o i
+  pub to : endOf ws o i < L
+  pub is : (j : ℕ) → x ≤ j → j ≤ endOf ws o i → piece ws₀ o L j ≡ quadAt ws (o + 4 * i)
+  pub step : (y r : ℕ) → x ≤ y → y ≤ endOf ws o i → ((endOf ws o i ≡ y) × (r ≡ i + 1)) ⊎ ((endOf ws o i ≡ y → ⊥) × (r ≡ i)) → At ws₀ o L r (y + 1)
+
+pub seen : {ws₀ ws : List ℕ} {dst len o L i x m : ℕ} → Kept ws₀ ws dst m → m ≤ len → Lent ws₀ o dst len L → At ws₀ o L i x → x < L → Seen ws₀ ws o L i x
+seen {ws₀} {ws} {dst} {len} {o} {L} {i} {x} k h l a g = record {
+  index = s .index;
+  within = s .within;
+  room = omega (arith, k .size, l .room, s .within (l .formed));
+  from = rw e (s .from);
+  to = rw e (s .to);
+  is = λ j p q. s .is j p (rw e at q) ∙ sym (same-quad m i (omega (arith, s .within (l .formed))));
+  step = λ y r p q w. at-step y r a g p (rw e at q) (rw e at w);
+}
+  where
+    s : Here ws₀ o L i x
+    s = here a g
+
+    m : Same ws₀ ws o (4 * l .formed .count)
+    m = kept-lent k h l
+
+    e : endOf ws o i ≡ endOf ws₀ o i
+    e = same-end m i (omega (arith, s .within (l .formed)))
+
+pub raised-same : (pen : ℕ) {p q : Quad} → p ≡ q → raised pen p ≡ raised pen q
+raised-same pen e = ap (raised pen) e
+
+pub better-same : (v : ℕ) {p p′ q q′ : Quad} → p ≡ p′ → q ≡ q′ → better v p q ≡ better v p′ q′
+better-same v {p} {p′} {q} {q′} e g = ap (λ (t : Quad). better v t q) e ∙ ap (λ (t : Quad). better v p′ t) g
+
+pub start-pos : (ws : List ℕ) (o k : ℕ) → 0 < k → startOf ws o k ≡ endOf ws o (k - 1) + 1
+start-pos ws o k h = let e : k - 1 + 1 ≡ k = omega arith in rw e at (start-next ws o (k - 1))
+
+pub counted : {ws : List ℕ} {o L i x : ℕ} → At ws o L i x → startOf ws o i ≡ L → Built (Is (piece ws o L)) ws o i L
+counted a e = let b = opened (a .formed) in record { ends = e; rising = λ k h. b .rising k (omega (arith, a .inside)); holds = λ k h. b .holds k (omega (arith, a .inside)) }
+
+pub emits-one : {ws ws′ : List ℕ} {dst n r : ℕ} {q : Quad} (x y : ℕ) → n ≤ x → x < y → Appended ws ws′ dst n (y - 1) q r → Emits (λ (j : ℕ). q) ws ws′ dst n x y r
+emits-one {ws} {ws′} {dst} {n} {r} {q} x y g h a =
+    let e : y - 1 + 1 ≡ y = omega arith in
+    subst (λ (t : ℕ). Emits (λ (j : ℕ). q) ws ws′ dst n x t r) e (emits-append g (omega arith) (omega arith) (emits-none (λ (j : ℕ). q) ws dst n x) a (λ j u v. refl))
+
+pub emits-no : (F : ℕ → Quad) (ws : List ℕ) (dst n x y : ℕ) → x ≤ y → y ≤ x → Emits F ws ws dst n x y n
+emits-no F ws dst n x y h g = let e : y ≡ x = omega arith in rw e (emits-none F ws dst n x)
+
+pub emits-zero : (F : ℕ → Quad) (ws : List ℕ) (dst to : ℕ) → to ≤ 0 → Emits F ws ws dst 0 0 to 0
+emits-zero F ws dst to h = let e : to ≡ 0 = omega arith in rw e (emits-none F ws dst 0 0)
+
+-- ---- shifted
+pub shift-none : (g j : ℕ) (F : ℕ → Quad) → j < g → flat none ≡ shiftOf g F j
+shift-none g j F h = sym (ap (λ (b : Bool). pick b (moved g (F (j - g))) (flat none)) (lt-leb g j h))
+
+pub shift-moved : (g j : ℕ) (F : ℕ → Quad) (q : Quad) → g ≤ j → F (j - g) ≡ q → moved g q ≡ shiftOf g F j
+shift-moved g j F q h e = sym (ap (λ (b : Bool). pick b (moved g (F (j - g))) (flat none)) (le-leb g j h) ∙ ap (λ (t : Quad). moved g t) e)
+
+pub shift-same : (g j L : ℕ) (F G : ℕ → Quad) → ((i : ℕ) → i < L → F i ≡ G i) → j < L → shiftOf g F j ≡ shiftOf g G j
+shift-same g j L F G f h = ap (λ (t : Quad). pick (leb g j) (moved g t) (flat none)) (f (j - g) (omega arith))
+
+-- ---- reading a list from its end: the last of the k pieces of the levels below x
+pub record Back (ws₀ ws : List ℕ) (o L k x : ℕ) : Type 0 where
+  pub some : 0 < k
+  pub index : k - 1 < L
+  pub room : o + 4 * (k - 1) + 4 ≤ length ws
+  pub ends : (i : ℕ) → i < k - 1 → endOf ws o i < L
+  pub start : startOf ws o (k - 1) ≡ startOf ws₀ o (k - 1)
+  pub low : startOf ws₀ o (k - 1) < x
+  pub is : (j : ℕ) → startOf ws₀ o (k - 1) ≤ j → j < x → piece ws₀ o L j ≡ quadAt ws (o + 4 * (k - 1))
+  pub less : Built (Is (piece ws₀ o L)) ws₀ o (k - 1) (startOf ws₀ o (k - 1))
+
+pub back : {ws₀ ws : List ℕ} {dst len o L k x m : ℕ} → Kept ws₀ ws dst m → m ≤ len → Lent ws₀ o dst len L → Built (Is (piece ws₀ o L)) ws₀ o k x → x ≤ L → 0 < x → Back ws₀ ws o L k x
+back {ws₀} {ws} {dst} {len} {o} {L} {k} {x} t h l b g p = record {
+  some = pos;
+  index = omega (arith, cnt);
+  room = omega (arith, cnt, l .room, t .size);
+  ends = λ i u. rw (same-end m i (omega (arith, cnt))) (omega (arith, end-lt ws₀ o k (b .rising) i k (omega arith) (omega arith), b .ends));
+  start = same-start m (k - 1) (omega (arith, cnt));
+  low = omega (arith, b .rising (k - 1) (omega (arith, pos)), last);
+  is = λ j u v. sym (b .holds (k - 1) (omega (arith, pos)) j u (omega (arith, last))) ∙ sym (same-quad m (k - 1) (omega (arith, cnt)));
+  less = record { ends = refl; rising = λ i u. b .rising i (omega arith); holds = λ i u. b .holds i (omega arith) };
+}
+  where
+    m : Same ws₀ ws o (4 * l .formed .count)
+    m = kept-lent t h l
+
+    pos : 0 < k
+    pos = ⊎-elim (λ u. absurd (nil u)) (λ u. u) (le-or-lt k 0)
+      where
+        nil : k ≤ 0 → ⊥
+        nil u = let e : k ≡ 0 = omega arith in let z : startOf ws₀ o 0 ≡ x = rw e at (b .ends) in omega (arith, start-zero ws₀ o)
+
+    cnt : (0 < k) × ((k ≤ l .formed .count) × (l .formed .count ≤ L))
+    cnt = (pos, (built-most (l .formed) b g, count-most (l .formed)))
+
+    last : endOf ws₀ o (k - 1) + 1 ≡ x
+    last = sym (start-pos ws₀ o k pos) ∙ b .ends
+
+pub at-most : {ws : List ℕ} {o L i x : ℕ} → At ws o L i x → (f : Formed ws o L) → i ≤ f .count
+at-most a f = omega (arith, a .inside, count-same (a .formed) f)
+
+pub copy-lent : {ws : List ℕ} {o dst L : ℕ} (c : Copyable ws o dst L) → Lent ws o dst (4 * c .formed .count) L
+copy-lent c = record { formed = c .formed; room = c .room; apart = c .apart }

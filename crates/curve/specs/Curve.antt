@@ -1,0 +1,192 @@
+-- What a list means to the layer above: a function of the level, F, its values none or less than B, its pieces of at most A readings.
+-- Each operation's `Made` gives the result's, and what it requires follows from its lists'. Assumes nothing.
+use mathlib.Core.Path.{_≡_, refl, sym, ap, _∙_, subst}
+use mathlib.Core.Logic.{_⊎_, inl, inr, ⊎-elim}
+use mathlib.Core.Bool.{Bool, true, false}
+use mathlib.Core.List.{List}
+use Prim.Native.Nat.{ℕ, zero, suc, _+_, _*_, _-_, _≤_, _<_}
+use native.Mathlib.Nat.{mul-le-mul-right}
+use native.Mathlib.Numerals.{add-one}
+use native.Mathlib.Omega.{arith}
+use lib.Dec.{leb, ltb}
+use lib.ListN.{length, getD}
+use borrow.Author.Tests.{le-leb, lt-leb, lt-ltb, le-ltb}
+use Rattle.integers.specs.Rep.{le-or-lt}
+use Rattle.quadratic.specs.declared.Quad.{Quad}
+use Rattle.quadratic.specs.Quad.{up, down, value, none, flat, Small, Sized, Fine, pick, raised, pushed, moved, mirrored, better}
+use Rattle.quadratic.specs.Fine.{Bounds, far, plus, fine-sized, fine-none, fine-flat, fine-wider, fine-raised, value-raised, fine-pushed, value-pushed, fine-moved, value-moved, mirror-sum, mirror-rest, fine-mirrored, value-mirrored, value-better, fine-better, value-most, kinds}
+use Rattle.curve.specs.declared.Low.{Low}
+use Rattle.curve.specs.Pieces.{pickN, piece, Formed, Kept, Apart, Made, Held, Lent, Copied, shiftOf, mirrorOf, Turnable}
+use Rattle.curve.specs.Lists.{kept-formed, kept-piece, count-most, built-none, closed}
+use Rattle.curve.specs.Lows.{top, costs, Least, lowest, prefixOf, lowest-zero, lowest-new, lowest-old, lowest-among, prefix-new, prefix-old}
+
+-- a piece that costs x at v
+pub record Costs (A B v : ℕ) (q : Quad) (x : ℕ) : Type 0 where
+  pub fine : Fine A B q v
+  pub is : value q v ≡ x
+
+pub record Curve (A B base L : ℕ) (ws : List ℕ) (o : ℕ) (F : ℕ → ℕ) : Type 0 where
+  pub held : Held ws o L
+  pub at : (j : ℕ) → j < L → Costs A B (base + j) (piece ws o L j) (F j)
+
+-- the grid's places, and the bounds of the whole search
+pub record Limits (A B base L : ℕ) : Type 0 where
+  pub readings : A ≤ 1048576
+  pub cost : B ≤ 18014398509481984
+  pub low : 131072 ≤ base
+  pub high : base + L ≤ 262144
+
+bounds : {A B base L : ℕ} → Limits A B base L → (j : ℕ) → j < L → Bounds A B (base + j)
+bounds l j h = record { readings = l .readings; cost = l .cost; place = omega (arith, l .high) }
+
+-- ---- a list that is not written to
+pub curve-kept : {A B base L : ℕ} {ws ws′ : List ℕ} {dst len o : ℕ} {F : ℕ → ℕ} → Kept ws ws′ dst len → (c : Curve A B base L ws o F) → (o + 4 * c .held .formed .count ≤ dst) ⊎ (dst + len ≤ o) → Curve A B base L ws′ o F
+curve-kept {A} {B} {base} {L} {ws} {ws′} {dst} {len} {o} {F} k c a = record {
+  held = record { formed = kept-formed k (c .held .formed) a; room = omega (arith, c .held .room, k .size) };
+  at = λ j h. subst (λ (q : Quad). Costs A B (base + j) q (F j)) (sym (kept-piece k (c .held .formed) a j h)) (c .at j h);
+}
+
+pub curve-as : {A B base L : ℕ} {ws : List ℕ} {o : ℕ} {F : ℕ → ℕ} (G : ℕ → ℕ) → ((j : ℕ) → j < L → F j ≡ G j) → Curve A B base L ws o F → Curve A B base L ws o G
+curve-as G e c = record { held = c .held; at = λ j h. record { fine = c .at j h .fine; is = c .at j h .is ∙ e j h } }
+
+pub curve-wider : {A B base L : ℕ} {ws : List ℕ} {o : ℕ} {F : ℕ → ℕ} (A′ B′ : ℕ) → A ≤ A′ → B ≤ B′ → Curve A B base L ws o F → Curve A′ B′ base L ws o F
+curve-wider A′ B′ h g c = record { held = c .held; at = λ j k. record { fine = fine-wider A′ B′ h g (c .at j k .fine); is = c .at j k .is } }
+
+-- ---- what is required
+pub curve-lent : {A B base L : ℕ} {ws : List ℕ} {o : ℕ} {F : ℕ → ℕ} (dst len : ℕ) (c : Curve A B base L ws o F) → (o + 4 * c .held .formed .count ≤ dst) ⊎ (dst + len ≤ o) → Lent ws o dst len L
+curve-lent dst len c a = record { formed = c .held .formed; room = c .held .room; apart = a }
+
+-- full lists that share no word
+pub near : {A B base L : ℕ} {ws : List ℕ} {o : ℕ} {F : ℕ → ℕ} (dst : ℕ) (c : Curve A B base L ws o F) → Apart o dst (4 * L) → (o + 4 * c .held .formed .count ≤ dst) ⊎ (dst + 4 * L ≤ o)
+near dst c = ⊎-elim (λ h. inl (omega (arith, count-most (c .held .formed)))) (λ h. inr h)
+
+module _ {A B base L : ℕ} (l : Limits A B base L) {ws : List ℕ} {o : ℕ} {F : ℕ → ℕ} (c : Curve A B base L ws o F) where
+  pub curve-sized : (j : ℕ) → j < L → Sized (piece ws o L j)
+  curve-sized j h = fine-sized (bounds l j h) (c .at j h .fine)
+
+  pub curve-whole : (j : ℕ) → j < L → Small (piece ws o L j) × (down (piece ws o L j) (base + j) ≤ up (piece ws o L j) (base + j))
+  curve-whole j h = let s = curve-sized j h in (record { count = s .count; sum = s .sum; rest = omega (arith, s .rest) }, c .at j h .fine .whole)
+
+  pub curve-fine : (j : ℕ) → j < L → Fine 1048576 18014398509481984 (piece ws o L j) (base + j)
+  curve-fine j h = fine-wider 1048576 18014398509481984 (l .readings) (l .cost) (c .at j h .fine)
+
+  pub curve-turnable : (j : ℕ) → j < L → Turnable (2 * base + (L - 1)) (piece ws o L j)
+  curve-turnable j h =
+      let e : base + j + (base + (L - 1 - j)) ≡ 2 * base + (L - 1) = omega arith in
+      let w : 131070 ≤ base + (L - 1 - j) = omega (arith, l .low) in
+      record { sized = curve-sized j h; sum = rw e at (mirror-sum (base + (L - 1 - j)) w (c .at j h .fine)); rest = rw e at (mirror-rest (base + (L - 1 - j)) w (c .at j h .fine)) }
+
+pub curve-raised : {A B base L : ℕ} (pen : ℕ) → Limits A (B + pen) base L → {ws : List ℕ} {o : ℕ} {F : ℕ → ℕ} → Curve A B base L ws o F → (j : ℕ) → j < L → Sized (raised pen (piece ws o L j))
+curve-raised pen l c j h = fine-sized (bounds l j h) (fine-raised pen (record { readings = l .readings; cost = omega (arith, l .cost); place = omega (arith, l .high) }) (c .at j h .fine))
+
+-- ---- what is made
+made-curve : {A B base L : ℕ} {ws ws′ : List ℕ} {dst : ℕ} {P : ℕ → Quad} (F : ℕ → ℕ) → dst + 4 * L ≤ length ws → Made P ws ws′ dst L → ((j : ℕ) → j < L → Costs A B (base + j) (P j) (F j)) → Curve A B base L ws′ dst F
+made-curve {A} {B} {base} F r m f = record {
+  held = record { formed = m .formed; room = omega (arith, m .kept .size, count-most (m .formed)) };
+  at = λ j h. subst (λ (q : Quad). Costs A B (base + j) q (F j)) (sym (m .is j h)) (f j h);
+}
+
+-- one number everywhere
+pub curve-flat : {A B base L x : ℕ} {ws ws′ : List ℕ} {dst : ℕ} → (x ≡ none) ⊎ (x < B) → dst + 4 * L ≤ length ws → Made (λ (j : ℕ). flat x) ws ws′ dst L → Curve A B base L ws′ dst (λ (j : ℕ). x)
+curve-flat {A} {B} {base} {L} {x} k r m = made-curve (λ (j : ℕ). x) r m (λ j h. record { fine = ⊎-elim (λ e. rw e (fine-none A B (base + j))) (λ e. fine-flat A B (base + j) x e) k; is = omega arith })
+
+abbrev pub less : ℕ → ℕ → ℕ
+less x y = pickN (leb x y) x y
+
+pub curve-least : {A B C base L : ℕ} {ws ws′ : List ℕ} {f g dst : ℕ} {F G : ℕ → ℕ} (pen : ℕ) → C + pen ≤ B → Limits A B base L → Curve A B base L ws f F → Curve A C base L ws g G → dst + 4 * L ≤ length ws
+    → Made (λ (j : ℕ). better (base + j) (piece ws f L j) (raised pen (piece ws g L j))) ws ws′ dst L → Curve A B base L ws′ dst (λ (j : ℕ). less (F j) (plus pen (G j)))
+curve-least {A} {B} {C} {base} {L} {ws} {ws′} {f} {g} {dst} {F} {G} pen hb l cf cg r m = made-curve (λ (j : ℕ). less (F j) (plus pen (G j))) r m each
+  where
+    each : (j : ℕ) → j < L → Costs A B (base + j) (better (base + j) (piece ws f L j) (raised pen (piece ws g L j))) (less (F j) (plus pen (G j)))
+    each j h =
+        let b : Bounds A C (base + j) = record { readings = l .readings; cost = omega (arith, l .cost); place = omega (arith, l .high) } in
+        let q = fine-wider A B (omega arith) hb (fine-raised pen b (cg .at j h .fine)) in
+        record { fine = fine-better (cf .at j h .fine) q; is = value-better (cf .at j h .fine) q ∙ rw (value-raised pen b (cg .at j h .fine), cf .at j h .is, cg .at j h .is) refl }
+
+pub curve-loss : {A B base L : ℕ} {ws ws′ : List ℕ} {f dst : ℕ} {F : ℕ → ℕ} (u : ℕ) → ((j : ℕ) → j < L → far u (base + j) ≤ 65535) → Limits A B base L → Curve A B base L ws f F → dst + 4 * L ≤ length ws
+    → Made (λ (j : ℕ). pushed u (piece ws f L j)) ws ws′ dst L → Curve (A + 1) (B + 4294836225) base L ws′ dst (λ (j : ℕ). plus (far u (base + j) * far u (base + j)) (F j))
+curve-loss {base = base} {F = F} u d l c r m = made-curve (λ (j : ℕ). plus (far u (base + j) * far u (base + j)) (F j)) r m
+    (λ j h. record { fine = fine-pushed u (d j h) (bounds l j h) (c .at j h .fine); is = value-pushed u (bounds l j h) (c .at j h .fine) ∙ ap (plus (far u (base + j) * far u (base + j))) (c .at j h .is) })
+
+pub curve-shift : {A B base L : ℕ} {ws ws′ : List ℕ} {f dst : ℕ} {F : ℕ → ℕ} (g : ℕ) → Curve A B base L ws f F → dst + 4 * L ≤ length ws
+    → Made (shiftOf g (piece ws f L)) ws ws′ dst L → Curve A B base L ws′ dst (λ (j : ℕ). pickN (leb g j) (F (j - g)) none)
+curve-shift {A} {B} {base} {L} {ws} {ws′} {f} {dst} {F} g c r m = made-curve (λ (j : ℕ). pickN (leb g j) (F (j - g)) none) r m
+    (λ j h. ⊎-elim
+    (λ k. rw (le-leb g j k) (let e : base + (j - g) + g ≡ base + j = omega arith in subst (λ (v : ℕ). Costs A B v (moved g (piece ws f L (j - g))) (F (j - g))) e (record { fine = fine-moved g (c .at (j - g) (omega arith) .fine); is = value-moved g (c .at (j - g) (omega arith) .fine) ∙ c .at (j - g) (omega arith) .is })))
+    (λ k. rw (lt-leb g j k) (record { fine = fine-none A B (base + j); is = omega arith }))
+    (le-or-lt g j))
+
+pub curve-mirror : {A B base L : ℕ} {ws ws′ : List ℕ} {f dst : ℕ} {F : ℕ → ℕ} → Limits A B base L → Curve A B base L ws f F → dst + 4 * L ≤ length ws
+    → Made (mirrorOf (2 * base + (L - 1)) L (piece ws f L)) ws ws′ dst L → Curve A B base L ws′ dst (λ (j : ℕ). F (L - 1 - j))
+curve-mirror {A} {B} {base} {L} {ws} {ws′} {f} {dst} {F} l c r m = made-curve (λ (j : ℕ). F (L - 1 - j)) r m
+    (λ j h.
+    let e : base + (L - 1 - j) + (base + j) ≡ 2 * base + (L - 1) = omega arith in
+    let w : 131070 ≤ base + j = omega (arith, l .low) in
+    let k = c .at (L - 1 - j) (omega arith) in
+    subst (λ (s : ℕ). Costs A B (base + j) (mirrored s (piece ws f L (L - 1 - j))) (F (L - 1 - j))) e (record { fine = fine-mirrored (base + j) w (k .fine); is = value-mirrored (base + j) w (k .fine) ∙ k .is }))
+
+pub lowest-same : (G H : ℕ → ℕ) (j : ℕ) → ((i : ℕ) → i < j → G i ≡ H i) → lowest G j ≡ lowest H j
+unfolding lowest
+lowest-same G H zero e = refl
+lowest-same G H (suc j) e = rw (e j (omega arith), lowest-same G H j (λ i h. e i (omega arith)))
+
+-- the least so far
+pub curve-prefix : {A B base L : ℕ} {ws ws′ : List ℕ} {f dst : ℕ} {F : ℕ → ℕ} → Limits A B base L → Curve A B base L ws f F → dst + 4 * L ≤ length ws
+    → Made (prefixOf base (piece ws f L)) ws ws′ dst L → Curve A B base L ws′ dst (λ (j : ℕ). lowest F (j + 1))
+curve-prefix {A} {B} {base} {L} {ws} {ws′} {f} {dst} {F} l c r m = made-curve (λ (j : ℕ). lowest F (j + 1)) r m each
+  where
+    G : ℕ → ℕ
+    G = costs base (piece ws f L)
+
+    size : (j : ℕ) → j < L → Fine A B (flat (G j)) (base + j)
+    size j h = ⊎-elim
+        (λ e. subst (λ (q : Quad). Fine A B (flat (value q (base + j))) (base + j)) (sym e) (let z : value (flat none) (base + j) ≡ none = omega arith in rw z (fine-none A B (base + j))))
+        (λ e. fine-flat A B (base + j) (G j) (omega (arith, e .1, c .at j h .fine .whole)))
+        (kinds (bounds l j h) (c .at j h .fine))
+
+    any : (b v x : ℕ) → Fine A B (flat b) v → Fine A B (flat b) x
+    any b v x k = record { count = k .count; left = omega arith; right = omega arith; whole = omega arith; size = ⊎-elim (λ p. inl p) (λ p. inr (omega arith)) (k .size) }
+
+    same : (j : ℕ) → j < L → lowest G (j + 1) ≡ lowest F (j + 1)
+    same j h = lowest-same G F (j + 1) (λ i k. c .at i (omega arith) .is)
+
+    each : (j : ℕ) → j < L → Costs A B (base + j) (prefixOf base (piece ws f L) j) (lowest F (j + 1))
+    each j h = ⊎-elim
+        (λ k. rw (prefix-old base (piece ws f L) j (lowest G j) refl k) (record {
+          fine = ⊎-elim
+              (λ t. absurd (omega (arith, t, value-most (bounds l j h) (c .at j h .fine))))
+              (λ a. rw (a .is) (any (G (a .at)) (base + a .at) (base + j) (size (a .at) (omega (arith, a .inside)))))
+              (lowest-among G j);
+          is = let z : value (flat (lowest G j)) (base + j) ≡ lowest G j = omega arith in z ∙ sym (lowest-old G j k) ∙ same j h;
+        }))
+        (λ k. rw (prefix-new base (piece ws f L) j k) (record { fine = c .at j h .fine; is = sym (lowest-new G j k) ∙ same j h }))
+        (le-or-lt (lowest G j) (G j))
+
+-- the least on a range
+pub curve-least-in : {A B base L : ℕ} {ws : List ℕ} {o : ℕ} {F : ℕ → ℕ} {from to : ℕ} {r : Low} → Curve A B base L ws o F → to < L → Least (costs base (piece ws o L)) from to r → Least F from to r
+curve-least-in c h t = record {
+  low = t .low;
+  high = t .high;
+  is = t .is ∙ c .at _ (omega (arith, t .high)) .is;
+  least = λ m u v. omega (arith, t .least m u v, c .at m (omega arith) .is);
+  first = λ m u v. omega (arith, t .first m u v, c .at m (omega (arith, t .high)) .is);
+}
+
+-- lists side by side, by their numbers, share no word
+pub slots-apart : (len i k : ℕ) → (i ≡ k → ⊥) → Apart (i * len) (k * len) len
+slots-apart len i k n = ⊎-elim (λ h. inr (above i k h)) (λ h. inl (above k i h)) (split i k n)
+  where
+    split : (i k : ℕ) → (i ≡ k → ⊥) → (k < i) ⊎ (i < k)
+    split i k n = ⊎-elim (λ h. inr (omega arith)) (λ h. inl h) (le-or-lt i k)
+
+    above : (i k : ℕ) → k < i → k * len + len ≤ i * len
+    above i k h = omega (arith, mul-le-mul-right len h)
+
+-- a copy
+pub copied-curve : {A B base L : ℕ} {ws ws′ : List ℕ} {o dst r : ℕ} {F : ℕ → ℕ} → dst + 4 * r ≤ length ws → Copied ws ws′ o dst L r → Curve A B base L ws o F → Curve A B base L ws′ dst F
+copied-curve {A} {B} {base} {L} {ws} {ws′} {o} {dst} {r} {F} h m c =
+    let b = m .emits .built (piece ws o L) (λ j u v. refl) (built-none ws dst) in
+    record {
+      held = record { formed = record { count = r; ends = b .ends; rising = b .rising }; room = omega (arith, m .emits .kept .size) };
+      at = λ j k. subst (λ (q : Quad). Costs A B (base + j) q (F j)) (sym (closed b j k)) (c .at j k);
+    }

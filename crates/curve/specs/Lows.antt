@@ -1,0 +1,123 @@
+-- The least of a function's values, and the lowest level that has it. Assumes nothing.
+use mathlib.Core.Path.{_≡_, refl, sym, ap, _∙_, subst}
+use mathlib.Core.Logic.{_⊎_, inl, inr, ⊎-elim}
+use mathlib.Core.List.{List}
+use Prim.Native.Nat.{ℕ, zero, suc, _+_, _*_, _-_, _≤_, _<_}
+use native.Mathlib.Numerals.{add-one}
+use native.Mathlib.Omega.{arith}
+use lib.Dec.{ltb}
+use borrow.Author.Tests.{lt-ltb, le-ltb}
+use Rattle.integers.specs.Rep.{le-or-lt}
+use Rattle.quadratic.specs.declared.Quad.{Quad}
+use Rattle.quadratic.specs.Quad.{value, none, flat, pick, Fine, up, down, Under, Over}
+use Rattle.curve.specs.declared.Low.{Low}
+use Rattle.curve.specs.declared.Run.{Run}
+use Rattle.curve.specs.Pieces.{pickN, piece, Emits}
+
+-- more than any value
+abbrev pub top : ℕ
+top = 1152921504606846977
+
+-- what F costs at each level
+abbrev pub costs : ℕ → (ℕ → Quad) → ℕ → ℕ
+costs base F j = value (F j) (base + j)
+
+-- r is the least of G on [from, to], at its lowest level
+pub record Least (G : ℕ → ℕ) (from to : ℕ) (r : Low) : Type 0 where
+  pub low : from ≤ r .level
+  pub high : r .level ≤ to
+  pub is : r .value ≡ G (r .level)
+  pub least : (m : ℕ) → from ≤ m → m ≤ to → r .value ≤ G m
+  pub first : (m : ℕ) → from ≤ m → m < r .level → r .value < G m
+
+-- the least of G at the levels below j, and top where there are none
+unfoldable pub lowest : (ℕ → ℕ) → ℕ → ℕ
+lowest G zero = top
+lowest G (suc j) = pickN (ltb (G j) (lowest G j)) (G j) (lowest G j)
+
+-- F where it is less than at every level before; else the least before
+abbrev pub prefixOf : ℕ → (ℕ → Quad) → ℕ → Quad
+prefixOf base F j = pick (ltb (costs base F j) (lowest (costs base F) j)) (F j) (flat (lowest (costs base F) j))
+
+-- r is the first level of [a, v] at which p is less than best
+pub record Drops (p : Quad) (best a v base r : ℕ) : Type 0 where
+  pub low : a ≤ r
+  pub high : r ≤ v
+  pub before : (m : ℕ) → a ≤ m → m < r → Under (flat best) p (base + m)
+  pub at : Over (flat best) p (base + r)
+
+-- the pieces of the least so far at the levels from a to e, where p is in force
+pub record Prefixed (ws ws′ : List ℕ) (dst base a e : ℕ) (p : Quad) (run r : Run) : Type 0 where
+  pub on : (F : ℕ → Quad) → ((j : ℕ) → a ≤ j → j ≤ e → F j ≡ p) → lowest (costs base F) a ≡ run .best → Emits (prefixOf base F) ws ws′ dst (run .n) a (e + 1) (r .n) × (lowest (costs base F) (e + 1) ≡ r .best)
+
+-- r is best, or p's least on [a, b], at its lowest level, where that is less
+pub record Lowered (best : Low) (p : Quad) (a b base : ℕ) (r : Low) : Type 0 where
+  pub least : (m : ℕ) → a ≤ m → m ≤ b → r .value ≤ value p (base + m)
+  pub is : (r ≡ best) ⊎ (((a ≤ r .level) × (r .level ≤ b)) × ((r .value ≡ value p (base + r .level)) × ((r .value < best .value) × ((m : ℕ) → a ≤ m → m < r .level → r .value < value p (base + m)))))
+
+-- ---- laws
+pub lowest-zero : (G : ℕ → ℕ) → lowest G 0 ≡ top
+unfolding lowest
+lowest-zero G = refl
+
+pub lowest-new : (G : ℕ → ℕ) (j : ℕ) → G j < lowest G j → lowest G (j + 1) ≡ G j
+unfolding lowest
+lowest-new G j h = rw (add-one, lt-ltb (G j) (lowest G j) h)
+
+pub lowest-old : (G : ℕ → ℕ) (j : ℕ) → lowest G j ≤ G j → lowest G (j + 1) ≡ lowest G j
+unfolding lowest
+lowest-old G j h = rw (add-one, le-ltb (G j) (lowest G j) h)
+
+-- nothing less from x on: it stays
+pub lowest-stays : (G : ℕ → ℕ) (x b : ℕ) → lowest G x ≡ b → (i : ℕ) → ((j : ℕ) → x ≤ j → j < x + i → b ≤ G j) → lowest G (x + i) ≡ b
+lowest-stays G x b e zero f = let z : x + 0 ≡ x = omega arith in rw z e
+lowest-stays G x b e (suc i) f =
+    let z : x + suc i ≡ x + i + 1 = omega arith in
+    let h : lowest G (x + i) ≡ b = lowest-stays G x b e i (λ j u v. f j u (omega arith)) in
+    rw z (lowest-old G (x + i) (rw h (f (x + i) (omega arith) (omega arith))) ∙ h)
+
+-- G falls from s on, from below what was least: each is the least so far
+pub lowest-falls : (G : ℕ → ℕ) (s : ℕ) → G s < lowest G s → (i : ℕ) → ((j : ℕ) → s ≤ j → j < s + i → G (j + 1) < G j) → G (s + i) < lowest G (s + i)
+lowest-falls G s h zero f = let z : s + 0 ≡ s = omega arith in rw z h
+lowest-falls G s h (suc i) f =
+    let z : s + suc i ≡ s + i + 1 = omega arith in
+    let l : lowest G (s + i + 1) ≡ G (s + i) = lowest-new G (s + i) (lowest-falls G s h i (λ j u v. f j u (omega arith))) in
+    rw (z, l) (f (s + i) (omega arith) (omega arith))
+
+-- it is at most each
+pub lowest-least : (G : ℕ → ℕ) (j i : ℕ) → i < j → lowest G j ≤ G i
+lowest-least G zero i h = absurd (omega arith)
+lowest-least G (suc j) i h =
+    let z : suc j ≡ j + 1 = omega arith in
+    rw z (⊎-elim
+    (λ p. rw (lowest-old G j p) (⊎-elim (λ q. let e : i ≡ j = omega arith in rw e p) (λ q. lowest-least G j i q) (le-or-lt j i)))
+    (λ p. rw (lowest-new G j p) (⊎-elim (λ q. let e : i ≡ j = omega arith in rw e (omega arith)) (λ q. omega (arith, lowest-least G j i q)) (le-or-lt j i)))
+    (le-or-lt (lowest G j) (G j)))
+
+-- and it is one of them
+pub record Among (G : ℕ → ℕ) (j : ℕ) : Type 0 where
+  pub at : ℕ
+  pub inside : at < j
+  pub is : lowest G j ≡ G at
+
+pub lowest-among : (G : ℕ → ℕ) (j : ℕ) → (lowest G j ≡ top) ⊎ Among G j
+lowest-among G zero = inl (lowest-zero G)
+lowest-among G (suc j) =
+    let z : suc j ≡ j + 1 = omega arith in
+    ⊎-elim
+    (λ p. ⊎-elim (λ t. inl (rw z (lowest-old G j p ∙ t))) (λ a. inr (record { at = a .at; inside = omega (arith, a .inside); is = rw z (lowest-old G j p ∙ a .is) })) (lowest-among G j))
+    (λ p. inr (record { at = j; inside = omega arith; is = rw z (lowest-new G j p) }))
+    (le-or-lt (lowest G j) (G j))
+
+-- what is in force is F, or it is the least before
+pub prefix-new : (base : ℕ) (F : ℕ → Quad) (j : ℕ) → costs base F j < lowest (costs base F) j → prefixOf base F j ≡ F j
+prefix-new base F j h = rw (lt-ltb (costs base F j) (lowest (costs base F) j) h)
+
+pub prefix-old : (base : ℕ) (F : ℕ → Quad) (j b : ℕ) → lowest (costs base F) j ≡ b → b ≤ costs base F j → prefixOf base F j ≡ flat b
+prefix-old base F j b e h = rw (e, le-ltb (costs base F j) b h)
+
+pub lowest-most : (G : ℕ → ℕ) (j : ℕ) → lowest G j ≤ top
+lowest-most G zero = omega (arith, lowest-zero G)
+lowest-most G (suc j) =
+    let z : suc j ≡ j + 1 = omega arith in
+    rw z (⊎-elim (λ p. omega (arith, lowest-old G j p, lowest-most G j)) (λ p. omega (arith, lowest-new G j p, lowest-most G j)) (le-or-lt (lowest G j) (G j)))

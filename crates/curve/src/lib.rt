@@ -1,0 +1,403 @@
+// Cost functions as lists of pieces in a lent workspace.
+use quadratic::Quad;
+ghost use mathlib.Core.Path.{_≡_};
+ghost use mathlib.Core.Bool.{true, false};
+ghost use mathlib.Core.Logic.{_⊎_};
+ghost use Prim.Native.Nat.{ℕ, _+_, _*_, _-_, _≤_, _<_};
+ghost use lib.ListN.{length, getD};
+ghost use Rattle.quadratic.specs.Quad.{Small, Sized, Fine, raised, pushed, moved, mirrored, better, value, flat, none, up, down, Over};
+ghost use Rattle.curve.specs.Lows.{Least, Drops, Prefixed, Lowered, prefixOf, costs, lowest};
+ghost use Rattle.curve.specs.Pieces.{quadAt, Kept, Built, Is, Formed, piece, Stored, Appended, Emits, Made, Apart, Held, Lent, Copyable, Copied, startOf, endOf, endsBelow, shiftOf, mirrorOf, Turnable};
+
+// The piece at a place, without its end.
+fn load(ws: &[u64], at: usize) -> Quad
+    requires { ⌜ at + 4 ≤ length (now ws) ⌝ }
+    ensures { λ r. ⌜ r ≡ quadAt (now (ws .entry)) at ⌝ }
+{
+    Quad {
+        a: ws[at + 1],
+        z: ws[at + 2],
+        c: ws[at + 3],
+    }
+}
+
+// Put there, with its end.
+fn store(ws: &mut [u64], at: usize, end: u64, q: Quad)
+    requires { ⌜ at + 4 ≤ length (now ws) ⌝ }
+    ensures { λ r. ⌜ Stored (now (ws .entry)) (now (ws .exit)) at end q ⌝ }
+{
+    ws[at] = end;
+    ws[at + 1] = q.a;
+    ws[at + 2] = q.z;
+    ws[at + 3] = q.c;
+}
+
+// Whether two are the same.
+fn same(p: Quad, q: Quad) -> bool
+    ensures { λ r. ⌜ (r ≡ true → p ≡ q) ⌝ }
+{
+    if p.a == q.a {
+        if p.z == q.z {
+            if p.c == q.c {
+                return true;
+            }
+        }
+    }
+    false
+}
+
+// One piece more after the n at dst, or the last one longer.
+pub fn append(ws: &mut [u64], dst: usize, n: usize, end: u64, q: Quad) -> usize
+    requires { ⌜ dst + 4 * (n + 1) ≤ length (now ws) ⌝ }
+    ensures { λ r. ⌜ Appended (now (ws .entry)) (now (ws .exit)) dst n end q r ⌝ }
+{
+    if 0 < n {
+        let back = dst + 4 * (n - 1);
+        let p = load(ws, back);
+        if same(p, q) {
+            ws[back] = end;
+            return n;
+        }
+    }
+    let at = dst + 4 * n;
+    store(ws, at, end, q);
+    n + 1
+}
+
+// The better of p and q at the levels from x to y, p where they are equal.
+fn least_on(
+    ws: &mut [u64],
+    dst: usize,
+    n: usize,
+    p: Quad,
+    q: Quad,
+    x: u64,
+    y: u64,
+    base: u64,
+) -> usize
+    requires { ⌜ (Sized p × Sized q) × (base + y < 262144) ⌝ }
+    requires { ⌜ ((n ≤ x) × (x ≤ y)) × (dst + 4 * (y + 1) ≤ length (now ws)) ⌝ }
+    ensures { λ r. ⌜ Emits (λ (j : ℕ). better (base + j) p q) (now (ws .entry)) (now (ws .exit)) dst n x (y + 1) r ⌝ }
+{
+    let mut a = x;
+    let mut k = n;
+    while a <= y {
+        if quadratic::under(p, q, base + a) {
+            let s = quadratic::crossing(p, q, base + a, base + y) - base;
+            k = append(ws, dst, k, s, p);
+            a = s + 1;
+        } else {
+            let q1 = Quad {
+                a: q.a,
+                z: q.z,
+                c: q.c + 1,
+            };
+            let s = quadratic::crossing(q1, p, base + a, base + y) - base;
+            k = append(ws, dst, k, s, q);
+            a = s + 1;
+        }
+    }
+    k
+}
+
+// The less of two numbers.
+fn lesser(e: u64, h: u64) -> u64
+    ensures { λ r. ⌜ ((r ≤ e) × (r ≤ h)) × ((r ≡ e) ⊎ (r ≡ h)) ⌝ }
+{
+    if e < h { e } else { h }
+}
+
+// The piece after the ith, where that ends at y.
+fn next(i: usize, e: u64, y: u64) -> usize
+    requires { ⌜ i < 1099511627776 ⌝ }
+    ensures { λ r. ⌜ ((e ≡ y) × (r ≡ i + 1)) ⊎ ((e ≡ y → ⊥) × (r ≡ i)) ⌝ }
+{
+    if e == y { i + 1 } else { i }
+}
+
+// dst: at each level the less of f's and of g's with pen added.
+pub fn least2(ws: &mut [u64], f: usize, g: usize, pen: u64, dst: usize, levels: u64, base: u64)
+    requires { ⌜ Lent (now ws) f dst (4 * levels) levels × (Lent (now ws) g dst (4 * levels) levels × (dst + 4 * levels ≤ length (now ws))) ⌝ }
+    requires { ⌜ (pen ≤ 1152921504606846976) × (base + levels ≤ 262144) ⌝ }
+    requires { ⌜ ((j : ℕ) → j < levels → Sized (piece (now ws) f levels j)) ⌝ }
+    requires { ⌜ ((j : ℕ) → j < levels → Sized (raised pen (piece (now ws) g levels j))) ⌝ }
+    ensures { λ r. ⌜ Made (λ (j : ℕ). better (base + j) (piece (now (ws .entry)) f levels j) (raised pen (piece (now (ws .entry)) g levels j))) (now (ws .entry)) (now (ws .exit)) dst levels ⌝ }
+{
+    let mut i: usize = 0;
+    let mut k: usize = 0;
+    let mut n: usize = 0;
+    let mut x: u64 = 0;
+    while x < levels {
+        let at = f + 4 * i;
+        let to = g + 4 * k;
+        let e = ws[at];
+        let h = ws[to];
+        let p = load(ws, at);
+        let l = load(ws, to);
+        let q = quadratic::raise(l, pen);
+        let y = lesser(e, h);
+        n = least_on(ws, dst, n, p, q, x, y, base);
+        i = next(i, e, y);
+        k = next(k, h, y);
+        x = y + 1;
+    }
+}
+
+// dst: f with the square (u - v)² more at each level.
+pub fn add_loss(ws: &mut [u64], f: usize, u: u64, dst: usize, levels: u64)
+    requires { ⌜ Lent (now ws) f dst (4 * levels) levels × (dst + 4 * levels ≤ length (now ws)) ⌝ }
+    requires { ⌜ (u < 262144) × (levels ≤ 262144) ⌝ }
+    requires { ⌜ ((j : ℕ) → j < levels → Sized (piece (now ws) f levels j)) ⌝ }
+    ensures { λ r. ⌜ Made (λ (j : ℕ). pushed u (piece (now (ws .entry)) f levels j)) (now (ws .entry)) (now (ws .exit)) dst levels ⌝ }
+{
+    let mut i: usize = 0;
+    let mut n: usize = 0;
+    let mut x: u64 = 0;
+    while x < levels {
+        let at = f + 4 * i;
+        let e = ws[at];
+        let p = load(ws, at);
+        let q = quadratic::push(p, u);
+        n = append(ws, dst, n, e, q);
+        i += 1;
+        x = e + 1;
+    }
+}
+
+// c at the levels from x up to y, y not among them.
+fn flat_to(ws: &mut [u64], dst: usize, n: usize, x: u64, y: u64, c: u64) -> usize
+    requires { ⌜ ((n ≤ x) × (x ≤ y)) × (dst + 4 * y ≤ length (now ws)) ⌝ }
+    ensures { λ r. ⌜ Emits (λ (j : ℕ). flat c) (now (ws .entry)) (now (ws .exit)) dst n x y r ⌝ }
+{
+    if x < y {
+        let q = Quad { a: 0, z: 0, c };
+        append(ws, dst, n, y - 1, q)
+    } else {
+        n
+    }
+}
+
+// dst: at each level f's of gap levels below; none where there is no such level.
+pub fn shift(ws: &mut [u64], f: usize, gap: u64, dst: usize, levels: u64)
+    requires { ⌜ Lent (now ws) f dst (4 * levels) levels × (dst + 4 * levels ≤ length (now ws)) ⌝ }
+    requires { ⌜ (gap < 1024) × (levels ≤ 262144) ⌝ }
+    requires { ⌜ ((j : ℕ) → j < levels → Sized (piece (now ws) f levels j)) ⌝ }
+    ensures { λ r. ⌜ Made (shiftOf gap (piece (now (ws .entry)) f levels)) (now (ws .entry)) (now (ws .exit)) dst levels ⌝ }
+{
+    if levels <= gap {
+        flat_to(ws, dst, 0, 0, levels, quadratic::NONE);
+        return;
+    }
+    let mut n = flat_to(ws, dst, 0, 0, gap, quadratic::NONE);
+    let mut i: usize = 0;
+    let mut x: u64 = 0;
+    while x + gap < levels {
+        let at = f + 4 * i;
+        let e = ws[at];
+        let p = load(ws, at);
+        let q = quadratic::shifted(p, gap);
+        let y = lesser(e, levels - 1 - gap);
+        n = append(ws, dst, n, y + gap, q);
+        i = next(i, e, y);
+        x = y + 1;
+    }
+}
+
+// How many pieces there are.
+pub fn count(ws: &[u64], f: usize, levels: u64) -> usize
+    requires { ⌜ Held (now ws) f levels × (levels ≤ 262144) ⌝ }
+    ensures { λ r. ⌜ Built (Is (piece (now (ws .entry)) f levels)) (now (ws .entry)) f r levels ⌝ }
+{
+    let mut i: usize = 0;
+    let mut x: u64 = 0;
+    while x < levels {
+        x = ws[f + 4 * i] + 1;
+        i += 1;
+    }
+    i
+}
+
+// The first level of the kth piece.
+fn start(ws: &[u64], f: usize, k: usize) -> u64
+    requires { ⌜ (f + 4 * k ≤ length (now ws)) × (endsBelow (now ws) f k) ⌝ }
+    ensures { λ r. ⌜ r ≡ startOf (now (ws .entry)) f k ⌝ }
+{
+    if k == 0 { 0 } else { ws[f + 4 * (k - 1)] + 1 }
+}
+
+// dst: f from its last level to its first.
+pub fn mirror(ws: &mut [u64], f: usize, dst: usize, levels: u64, base: u64)
+    requires { ⌜ Lent (now ws) f dst (4 * levels) levels × (dst + 4 * levels ≤ length (now ws)) ⌝ }
+    requires { ⌜ (131072 ≤ base) × (base + levels ≤ 262144) ⌝ }
+    requires { ⌜ ((j : ℕ) → j < levels → Turnable (2 * base + (levels - 1)) (piece (now ws) f levels j)) ⌝ }
+    ensures { λ r. ⌜ Made (mirrorOf (2 * base + (levels - 1)) levels (piece (now (ws .entry)) f levels)) (now (ws .entry)) (now (ws .exit)) dst levels ⌝ }
+{
+    let mut k = count(ws, f, levels);
+    let mut n: usize = 0;
+    let mut x = levels;
+    while 0 < x {
+        k -= 1;
+        let s = start(ws, f, k);
+        let p = load(ws, f + 4 * k);
+        let q = quadratic::turned(p, 2 * base + (levels - 1));
+        n = append(ws, dst, n, levels - 1 - s, q);
+        x = s;
+    }
+}
+
+// A value and a level that has it.
+pub struct Low {
+    pub value: u64,
+    pub level: u64,
+}
+
+// How many pieces there are, and the least value so far.
+pub struct Run {
+    pub n: usize,
+    pub best: u64,
+}
+
+// The first level of [a, v] at which p is less than best, where it is so at v.
+fn drops(p: Quad, best: u64, a: u64, v: u64, base: u64) -> u64
+    requires { ⌜ (Small p × (best ≤ 1152921504606846977)) × ((a ≤ v) × (base + v < 262144)) ⌝ }
+    requires { ⌜ Over (flat best) p (base + v) ⌝ }
+    ensures { λ r. ⌜ Drops p best a v base r ⌝ }
+{
+    let w = Quad {
+        a: 0,
+        z: 0,
+        c: best,
+    };
+    if quadratic::under(w, p, base + a) {
+        let s = quadratic::crossing(w, p, base + a, base + v) - base;
+        s + 1
+    } else {
+        a
+    }
+}
+
+// The least so far at the levels from a to e, at which p is in force.
+fn prefix_on(ws: &mut [u64], dst: usize, run: Run, p: Quad, a: u64, e: u64, base: u64) -> Run
+    requires { ⌜ Small p × ((v : ℕ) → base + a ≤ v → v ≤ base + e → down p v ≤ up p v) ⌝ }
+    requires { ⌜ ((run .n ≤ a) × (a ≤ e)) × ((base + e < 262144) × (run .best ≤ 1152921504606846977)) ⌝ }
+    requires { ⌜ dst + 4 * (e + 1) ≤ length (now ws) ⌝ }
+    ensures { λ r. ⌜ Prefixed (now (ws .entry)) (now (ws .exit)) dst base a e p run r ⌝ }
+{
+    let n = run.n;
+    let best = run.best;
+    let v = quadratic::lowest_min(p, base + a, base + e) - base;
+    let w = quadratic::eval(p, base + v);
+    if best <= w {
+        let all = flat_to(ws, dst, n, a, e + 1, best);
+        return Run { n: all, best };
+    }
+    let s = drops(p, best, a, v, base);
+    let before = flat_to(ws, dst, n, a, s, best);
+    let fallen = append(ws, dst, before, v, p);
+    let after = flat_to(ws, dst, fallen, v + 1, e + 1, w);
+    Run { n: after, best: w }
+}
+
+// dst: at each level the least of f's at that level and at those below.
+pub fn prefix_least(ws: &mut [u64], f: usize, dst: usize, levels: u64, base: u64)
+    requires { ⌜ Lent (now ws) f dst (4 * levels) levels × (dst + 4 * levels ≤ length (now ws)) ⌝ }
+    requires { ⌜ base + levels ≤ 262144 ⌝ }
+    requires { ⌜ ((j : ℕ) → j < levels → Small (piece (now ws) f levels j) × (down (piece (now ws) f levels j) (base + j) ≤ up (piece (now ws) f levels j) (base + j))) ⌝ }
+    ensures { λ r. ⌜ Made (prefixOf base (piece (now (ws .entry)) f levels)) (now (ws .entry)) (now (ws .exit)) dst levels ⌝ }
+{
+    let mut run = Run {
+        n: 0,
+        best: quadratic::NONE + 1,
+    };
+    let mut i: usize = 0;
+    let mut x: u64 = 0;
+    while x < levels {
+        let at = f + 4 * i;
+        let e = ws[at];
+        let p = load(ws, at);
+        run = prefix_on(ws, dst, run, p, x, e, base);
+        i += 1;
+        x = e + 1;
+    }
+}
+
+// The greater of two numbers.
+fn greater(e: u64, h: u64) -> u64
+    ensures { λ r. ⌜ ((e ≤ r) × (h ≤ r)) × ((r ≡ e) ⊎ (r ≡ h)) ⌝ }
+{
+    if e < h { h } else { e }
+}
+
+// The less of best and of the least of p on [a, b], which may be empty; best where they are equal.
+fn lower(best: Low, p: Quad, a: u64, b: u64, base: u64) -> Low
+    requires { ⌜ Small p × ((v : ℕ) → base + a ≤ v → v ≤ base + b → down p v ≤ up p v) ⌝ }
+    requires { ⌜ base + b < 262144 ⌝ }
+    ensures { λ r. ⌜ Lowered best p a b base r ⌝ }
+{
+    if b < a {
+        return best;
+    }
+    let v = quadratic::lowest_min(p, base + a, base + b);
+    let w = quadratic::eval(p, v);
+    if w < best.value {
+        Low {
+            value: w,
+            level: v - base,
+        }
+    } else {
+        best
+    }
+}
+
+// The least of f at the levels from .. to, and the lowest level that has it.
+pub fn least_in(ws: &[u64], f: usize, from: u64, to: u64, levels: u64, base: u64) -> Low
+    requires { ⌜ Held (now ws) f levels × (base + levels ≤ 262144) ⌝ }
+    requires { ⌜ (from ≤ to) × (to < levels) ⌝ }
+    requires { ⌜ ((j : ℕ) → j < levels → Fine 1048576 18014398509481984 (piece (now ws) f levels j) (base + j)) ⌝ }
+    ensures { λ r. ⌜ Least (costs base (piece (now (ws .entry)) f levels)) from to r ⌝ }
+{
+    let mut best = Low {
+        value: quadratic::NONE + 1,
+        level: from,
+    };
+    let mut i: usize = 0;
+    let mut x: u64 = 0;
+    while x <= to {
+        let at = f + 4 * i;
+        let e = ws[at];
+        let p = load(ws, at);
+        let a = greater(x, from);
+        let b = lesser(e, to);
+        best = lower(best, p, a, b, base);
+        i += 1;
+        x = e + 1;
+    }
+    best
+}
+
+// dst: c at every level.
+pub fn constant(ws: &mut [u64], dst: usize, levels: u64, c: u64)
+    requires { ⌜ dst + 4 * levels ≤ length (now ws) ⌝ }
+    ensures { λ r. ⌜ Made (λ (j : ℕ). flat c) (now (ws .entry)) (now (ws .exit)) dst levels ⌝ }
+{
+    flat_to(ws, dst, 0, 0, levels, c);
+}
+
+// The list of f put at dst, in as many pieces as are returned.
+pub fn copy(ws: &mut [u64], f: usize, dst: usize, levels: u64) -> usize
+    requires { ⌜ Copyable (now ws) f dst levels × (levels ≤ 262144) ⌝ }
+    ensures { λ r. ⌜ Copied (now (ws .entry)) (now (ws .exit)) f dst levels r ⌝ }
+{
+    let mut i: usize = 0;
+    let mut n: usize = 0;
+    let mut x: u64 = 0;
+    while x < levels {
+        let at = f + 4 * i;
+        let e = ws[at];
+        let p = load(ws, at);
+        n = append(ws, dst, n, e, p);
+        i += 1;
+        x = e + 1;
+    }
+    n
+}

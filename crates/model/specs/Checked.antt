@@ -1,0 +1,383 @@
+-- What the plan check guarantees of a plan. Assumes nothing.
+use mathlib.Core.Path.{_≡_, refl, sym}
+use mathlib.Core.Bool.{Bool, true, false}
+use mathlib.Core.Logic.{_⊎_, inl, inr}
+use mathlib.Core.List.{List}
+use Prim.Native.Nat.{ℕ, zero, suc, _-_, _/_, _%_, _^_, _≤_, _<_}
+use native.Mathlib.Omega.{arith}
+use native.Mathlib.Numerals.{unary-clauses}
+use native.Mathlib.Nat.{div-eq-of-lt, pow-le-pow-right}
+use native.Mathlib.Decide.{decLt, ℕ-discrete}
+use lib.Dec.{leb, ltb, eqb}
+use borrow.Author.Tests.{ltb-true, ltb-false, leb-true, leb-false, eqb-true, eqb-false, le-leb}
+use lib.IntN.{ℤ, pos, negsuc, _-ℤ_}
+use lib.Signed.{leZ, ltZ, leZ-yes}
+use Rattle.integers.specs.Rep.{iz, nz, _⊕_, _⊖_, eqN, leN, holds}
+use lib.ListN.{length, getD}
+use Rattle.plan.specs.declared.Plan.{Plan}
+use Rattle.plan.specs.declared.Edge.{Edge}
+use Rattle.plan.specs.declared.Label.{Label}
+use Rattle.plan.specs.declared.KindRead.the-variants.{Wrong}
+use Rattle.plan.specs.declared.EdgeRead.{EdgeRead}
+use Rattle.plan.specs.declared.EdgeRead.the-variants.{Is, Not}
+use Rattle.plan.specs.declared.EdgeStep.the-variants.{RefuseEdge}
+use Rattle.plan.specs.Build.{pick, anyBelow, firstBelow, kindNumber, gapOf, kindOf, kindAt, withKind, edgeOf, hasEdge, noEdge, noLabel, readEdge, freshEdge, edgeStep, edgeStepNumber, entryNumber, edgesNumber, labelNumber, labelsNumber, gridOk, maskOk, statesOk, openNumber, orElse, planNumber}
+use Rattle.model.specs.Grid.{above, above-add, no-way}
+use Rattle.model.specs.Model.{edgeAt, labelAt, inSet, onGrid, need}
+use Rattle.model.specs.Labels.{LabelsInOrder}
+use Rattle.model.specs.Opt.{width, counts}
+use Rattle.model.specs.Answer.{Fit}
+
+pub record GoodEdge (P : Plan) (e : ℕ) : Type 0 where
+  pub from-below : edgeAt P e .from < P .states
+  pub to-below : edgeAt P e .to < P .states
+  pub class-low : edgeAt P e .class ≤ 15
+  pub gap-low : gapOf (edgeAt P e .kind) ≤ 1023
+
+pub record Checked (P : Plan) : Type 0 where
+  pub grid : leZ (P .lo) (P .hi) ≡ true
+  pub narrow : width P ≤ 1024
+  pub some-states : 1 ≤ P .states
+  pub few-states : P .states ≤ 8
+  pub starts : (s : ℕ) → inSet (P .start) s ≡ true → s < P .states
+  pub ends : (s : ℕ) → inSet (P .end) s ≡ true → s < P .states
+  pub few-edges : P .edgecount ≤ 32
+  pub few-labels : P .labelcount ≤ 64
+  pub edge : (e : ℕ) → e < P .edgecount → GoodEdge P e
+  pub labels : LabelsInOrder P
+  pub low : (i : ℕ) → i < P .labelcount → labelAt P i .q ≤ 4096
+  pub small : (i : ℕ) → i < P .labelcount → labelAt P i .c ≤ 1
+
+-- ---- a number that is 0 passed every test
+
+zero-if : (b : Bool) (x y : ℕ) → (x ≡ 0 → ⊥) → pick b x y ≡ 0 → (b ≡ false) × (y ≡ 0)
+zero-if true x y h p = absurd (h p)
+zero-if false x y h p = (refl, p)
+
+zero-else : (b : Bool) (x y : ℕ) → (y ≡ 0 → ⊥) → pick b x y ≡ 0 → (b ≡ true) × (x ≡ 0)
+zero-else true x y h p = (refl, p)
+zero-else false x y h p = absurd (h p)
+
+or-zero : (a b : ℕ) → orElse a b ≡ 0 → (a ≡ 0) × (b ≡ 0)
+or-zero a b p = go (eqb a 0) refl p
+  where
+    go : (t : Bool) → eqb a 0 ≡ t → pick t b a ≡ 0 → (a ≡ 0) × (b ≡ 0)
+    go true e q = (eqb-true a 0 e, q)
+    go false e q = absurd (eqb-false a 0 e q)
+
+yes-if : (b x : Bool) → pick b false x ≡ true → (b ≡ false) × (x ≡ true)
+yes-if true x p = no-way p
+yes-if false x p = (refl, p)
+
+yes-both : (b x : Bool) → pick b x false ≡ true → (b ≡ true) × (x ≡ true)
+yes-both true x p = (refl, p)
+yes-both false x p = no-way p
+
+first-zero : (f : ℕ → ℕ) (n i : ℕ) → firstBelow f n ≡ 0 → i < n → f i ≡ 0
+unfolding firstBelow
+first-zero f zero i p h = absurd (omega arith)
+first-zero f (suc n) i p h =
+    let (a, b) = or-zero (firstBelow f n) (f n) p in
+    go a b (ℕ-discrete i n) (first-zero f n i)
+  where
+    go : firstBelow f n ≡ 0 → f n ≡ 0 → Dec (i ≡ n) → (firstBelow f n ≡ 0 → i < n → f i ≡ 0) → f i ≡ 0
+    go a b (yes e) ih = rw e b
+    go a b (no e) ih = ih a (omega arith)
+
+-- ---- opening
+
+grid-le : (lo hi : ℤ) → ltZ hi lo ≡ false → leZ lo hi ≡ true
+grid-le (pos a) (pos b) h = le-leb a b (ltb-false b a h)
+grid-le (pos a) (negsuc b) h = no-way (sym h)
+grid-le (negsuc a) (pos b) h = refl
+grid-le (negsuc a) (negsuc b) h = le-leb b a (ltb-false a b h)
+
+grid-narrow : (lo hi : ℤ) → leZ lo hi ≡ true → leZ (hi -ℤ lo) (pos 1023) ≡ true → above lo hi ≤ 1023
+grid-narrow lo hi h k =
+    let e = eqN (iz lo ⊕ nz (above lo hi)) (iz hi) (above-add lo hi h) in
+    let l = leN (iz hi ⊖ iz lo) (nz 1023) (leZ-yes (holds k)) in
+    omega arith
+
+mask-below : (m n s : ℕ) → maskOk n m ≡ true → inSet m s ≡ true → s < n
+unfolding inSet
+mask-below m n s h k = go (decLt s n)
+  where
+    go : Dec (s < n) → s < n
+    go (yes l) = l
+    go (no l) =
+        let b = ltb-true m (2 ^ n) (yes-if (eqb m 0) (ltb m (2 ^ n)) h .1) in
+        let p : 2 ^ n ≤ 2 ^ s = pow-le-pow-right {n = 2} (omega arith) {i = n} {j = s} (omega arith) in
+        let z : m / 2 ^ s ≡ 0 = div-eq-of-lt (omega arith) in
+        let w : (m / 2 ^ s) % 2 ≡ 1 = eqb-true (m / 2 ^ s % 2) 1 k in
+        let v : 0 % 2 ≡ 1 = rw z at w in
+        absurd (omega arith)
+
+-- ---- edges
+
+is-if : (b : Bool) (x : EdgeRead) (e : Edge) → pick b x Not ≡ Is e → (b ≡ true) × (x ≡ Is e)
+is-if true x e h = (refl, h)
+is-if false x e h = let z : _≡_ {A = ℕ} 0 1 = cc in absurd (omega arith)
+
+step-zero : (b : Bool) (es : List Edge) (n f t k : ℕ) (r : EdgeRead) → edgeStepNumber (pick b (RefuseEdge 10) (readEdge es n f t k r)) ≡ 0
+    → (b ≡ false) × (e : Edge) × (r ≡ Is e) × (hasEdge es n f t k ≡ false)
+step-zero true es n f t k r p = absurd (omega arith)
+step-zero false es n f t k Not p = absurd (omega arith)
+step-zero false es n f t k (Is e) p = go (hasEdge es n f t k) refl p
+  where
+    go : (b : Bool) → hasEdge es n f t k ≡ b → edgeStepNumber (freshEdge b e) ≡ 0 → (false ≡ false) × (e′ : Edge) × (Is e ≡ Is e′) × (hasEdge es n f t k ≡ false)
+    go true i q = absurd (omega arith)
+    go false i q = (refl, e, refl, i)
+
+kind-low : (f t c k g : ℕ) (e : Edge) → withKind f t c (kindOf k g) ≡ Is e → g ≤ 1023
+kind-low f t c k g e h = go (ltb 1023 g) refl h
+  where
+    go : (b : Bool) → ltb 1023 g ≡ b → withKind f t c (pick b Wrong (kindAt k g)) ≡ Is e → g ≤ 1023
+    go true i q = let z : _≡_ {A = ℕ} 0 1 = cc in absurd (omega arith)
+    go false i q = ltb-false 1023 g i
+
+abbrev Good : ℕ → Edge → Type 0
+Good S e = (e .from < S) × (e .to < S) × (e .class ≤ 15) × (gapOf (e .kind) ≤ 1023)
+
+entry-good : (S : ℕ) (es : List Edge) (n : ℕ) (e : Edge) → entryNumber S es n e ≡ 0
+    → (n < 32) × Good S e × (hasEdge es n (e .from) (e .to) (kindNumber (e .kind)) ≡ false)
+unfolding entryNumber edgeStep edgeOf
+entry-good S es n e p =
+    let f = e .from in
+    let t = e .to in
+    let c = e .class in
+    let k = kindNumber (e .kind) in
+    let g = gapOf (e .kind) in
+    let (a, x, r, h) = step-zero (leb 32 n) es n f t k (edgeOf S f t k g c) p in
+    let (b₁, r₁) = is-if (ltb f S) (pick (ltb t S) (pick (leb c 15) (withKind f t c (kindOf k g)) Not) Not) x r in
+    let (b₂, r₂) = is-if (ltb t S) (pick (leb c 15) (withKind f t c (kindOf k g)) Not) x r₁ in
+    let (b₃, r₃) = is-if (leb c 15) (withKind f t c (kindOf k g)) x r₂ in
+    (leb-false 32 n a, (ltb-true f S b₁, ltb-true t S b₂, leb-true c 15 b₃, kind-low f t c k g x r₃), h)
+
+-- ---- labels
+
+label-good : (ls : List Label) (n : ℕ) (l : Label) → labelNumber ls n l ≡ 0
+    → (n < 64) × (1 ≤ l .p) × (l .p < l .q) × (l .q ≤ 4096) × (l .c ≤ 1) × ((n ≡ 0) ⊎ (getD ls (n - 1) noLabel .q ≤ l .p))
+unfolding labelNumber
+label-good ls n l h₀ =
+    let (a₁, h₁) = zero-if (leb 64 n) 10 _ (λ e. omega arith) h₀ in
+    let (a₂, h₂) = zero-if (eqb (l .p) 0) 8 _ (λ e. omega arith) h₁ in
+    let (a₃, h₃) = zero-if (leb (l .q) (l .p)) 8 _ (λ e. omega arith) h₂ in
+    let (a₄, h₄) = zero-if (ltb 4096 (l .q)) 8 _ (λ e. omega arith) h₃ in
+    let (a₅, h₅) = zero-if (ltb 1 (l .c)) 8 _ (λ e. omega arith) h₄ in
+    let p : l .p ≡ 0 → ⊥ = eqb-false (l .p) 0 a₂ in
+    (leb-false 64 n a₁, omega (arith, p), leb-false (l .q) (l .p) a₃, ltb-false 4096 (l .q) a₄, ltb-false 1 (l .c) a₅, go (eqb n 0) refl h₅)
+  where
+    go : (b : Bool) → eqb n 0 ≡ b → _≡_ {A = ℕ} (pick b 0 (pick (ltb (l .p) (getD ls (n - 1) noLabel .q)) 12 0)) 0 → (n ≡ 0) ⊎ (getD ls (n - 1) noLabel .q ≤ l .p)
+    go true e q = inl (eqb-true n 0 e)
+    go false e q = inr (ltb-false (l .p) _ (zero-if (ltb (l .p) (getD ls (n - 1) noLabel .q)) 12 0 (λ e. omega arith) q .0))
+
+count-low : (n k : ℕ) → ((i : ℕ) → i < n → i < k) → n ≤ k
+count-low zero k h = omega arith
+count-low (suc n) k h = omega (arith, h n (omega arith))
+
+module _ (ls : List Label) (n : ℕ) (good : (i : ℕ) → i < n → labelNumber ls i (getD ls i noLabel) ≡ 0) where
+  abbrev at : ℕ → Label
+  at i = getD ls i noLabel
+
+  apart : (i j : ℕ) → i < j → j < n → at i .q ≤ at j .p
+  apart i zero h k = absurd (omega arith)
+  apart i (suc j) h k = go (ℕ-discrete i j) (apart i j) (label-good ls (suc j) (at (suc j)) (good (suc j) k)) (label-good ls j (at j) (good j (omega arith)))
+    where
+      Facts : ℕ → Type 0
+      Facts n = (n < 64) × (1 ≤ at n .p) × (at n .p < at n .q) × (at n .q ≤ 4096) × (at n .c ≤ 1) × ((n ≡ 0) ⊎ (getD ls (n - 1) noLabel .q ≤ at n .p))
+
+      next : (suc j ≡ 0) ⊎ (getD ls (suc j - 1) noLabel .q ≤ at (suc j) .p) → at j .q ≤ at (suc j) .p
+      next (inl e) = absurd (omega arith)
+      next (inr e) = simp unary-clauses at e
+
+      go : Dec (i ≡ j) → (i < j → j < n → at i .q ≤ at j .p) → Facts (suc j) → Facts j → at i .q ≤ at (suc j) .p
+      go (yes e) ih f g = rw e (next (f .5))
+      go (no e) ih f g = omega (arith, ih (omega arith) (omega arith), next (f .5), g .2)
+
+-- ---- the whole plan
+
+module _ (P : Plan) (h : planNumber P ≡ 0) where
+  parts : (openNumber (P .lo) (P .hi) (P .states) (P .start) (P .end) ≡ 0) × (edgesNumber (P .states) (P .edges) (P .edgecount) ≡ 0) × (labelsNumber (P .labels) (P .labelcount) ≡ 0)
+  unfolding planNumber
+  parts =
+      let (a, b) = or-zero (openNumber (P .lo) (P .hi) (P .states) (P .start) (P .end)) _ h in
+      let (c, d) = or-zero (edgesNumber (P .states) (P .edges) (P .edgecount)) (labelsNumber (P .labels) (P .labelcount)) b in
+      (a, c, d)
+
+  opened : (gridOk (P .lo) (P .hi) ≡ true) × (statesOk (P .states) (P .start) (P .end) ≡ true)
+  unfolding openNumber
+  opened =
+      let (a, b) = zero-else (gridOk (P .lo) (P .hi)) (pick (statesOk (P .states) (P .start) (P .end)) 0 5) 4 (λ e. omega arith) (parts .0) in
+      (a, zero-else (statesOk (P .states) (P .start) (P .end)) 0 5 (λ e. omega arith) b .0)
+
+  entry : (e : ℕ) → e < P .edgecount → entryNumber (P .states) (P .edges) e (edgeAt P e) ≡ 0
+  unfolding edgesNumber
+  entry e k = first-zero (λ i. entryNumber (P .states) (P .edges) i (getD (P .edges) i noEdge)) (P .edgecount) e (parts .1) k
+
+  label : (i : ℕ) → i < P .labelcount → labelNumber (P .labels) i (labelAt P i) ≡ 0
+  unfolding labelsNumber
+  label i k = first-zero (λ i. labelNumber (P .labels) i (getD (P .labels) i noLabel)) (P .labelcount) i (parts .2) k
+
+  pub checked : Checked P
+  unfolding width
+  checked =
+      let (g₁, g₂) = yes-if (ltZ (P .hi) (P .lo)) (leZ (P .hi -ℤ P .lo) (pos 1023)) (opened .0) in
+      let (s₁, r₁) = yes-if (eqb (P .states) 0) _ (opened .1) in
+      let (s₂, r₂) = yes-if (ltb 8 (P .states)) _ r₁ in
+      let (s₃, r₃) = yes-both (maskOk (P .states) (P .start)) (maskOk (P .states) (P .end)) r₂ in
+      let le = grid-le (P .lo) (P .hi) g₁ in
+      let z : P .states ≡ 0 → ⊥ = eqb-false (P .states) 0 s₁ in
+      record {
+        grid = le;
+        narrow = omega (arith, grid-narrow (P .lo) (P .hi) le g₂);
+        some-states = omega (arith, z);
+        few-states = ltb-false 8 (P .states) s₂;
+        starts = λ s k. mask-below (P .start) (P .states) s s₃ k;
+        ends = λ s k. mask-below (P .end) (P .states) s r₃ k;
+        few-edges = count-low (P .edgecount) 32 (λ i k. entry-good (P .states) (P .edges) i (edgeAt P i) (entry i k) .0);
+        few-labels = count-low (P .labelcount) 64 (λ i k. label-good (P .labels) i (labelAt P i) (label i k) .0);
+        edge = λ e k. let q = entry-good (P .states) (P .edges) e (edgeAt P e) (entry e k) .1 in record { from-below = q .0; to-below = q .1; class-low = q .2; gap-low = q .3 };
+        labels = record {
+          positive = λ i k. label-good (P .labels) i (labelAt P i) (label i k) .1;
+          proper = λ i k. label-good (P .labels) i (labelAt P i) (label i k) .2;
+          apart = λ i j k l. apart (P .labels) (P .labelcount) label i j k l;
+        };
+        low = λ i k. label-good (P .labels) i (labelAt P i) (label i k) .3;
+        small = λ i k. label-good (P .labels) i (labelAt P i) (label i k) .4;
+      }
+
+-- ---- the refusals of a search and of a cost at a point before they look at what is lent: 0 where none applies
+
+unfoldable pub countOk : ℕ → Bool
+countOk n = pick (eqb n 0) false (leb n 4096)
+
+-- a label's q is above n
+unfoldable pub late : Plan → ℕ → Bool
+late P n = anyBelow (λ i. ltb n (labelAt P i .q)) (P .labelcount)
+
+unfoldable pub searchNumber : Plan → ℕ → ℕ
+searchNumber P n = orElse (planNumber P) (pick (P .sealed) (pick (countOk n) (pick (late P n) 13 0) 9) 11)
+
+unfoldable pub pointNumber : Plan → ℕ → ℕ → ℤ → ℕ
+pointNumber P n s m = orElse (planNumber P) (pick (P .sealed) (pick (countOk n) (pick (ltb s (P .states)) (pick (onGrid P m) 0 4) 5) 9) 11)
+
+pub record Accepted (P : Plan) (n : ℕ) : Type 0 where
+  pub plan : Checked P
+  pub sealed : P .sealed ≡ true
+  pub some-readings : 1 ≤ n
+  pub few-readings : n ≤ 4096
+  pub closed : (i : ℕ) → i < P .labelcount → labelAt P i .q ≤ n
+
+pub record AcceptedPoint (P : Plan) (n s : ℕ) (m : ℤ) : Type 0 where
+  pub plan : Checked P
+  pub sealed : P .sealed ≡ true
+  pub some-readings : 1 ≤ n
+  pub few-readings : n ≤ 4096
+  pub state : s < P .states
+  pub level : onGrid P m ≡ true
+
+any-not : (f : ℕ → Bool) (n i : ℕ) → anyBelow f n ≡ false → i < n → f i ≡ false
+unfolding anyBelow
+any-not f zero i p h = absurd (omega arith)
+any-not f (suc n) i p h = go (anyBelow f n) refl p (ℕ-discrete i n) (any-not f n i)
+  where
+    go : (b : Bool) → anyBelow f n ≡ b → pick b true (f n) ≡ false → Dec (i ≡ n) → (anyBelow f n ≡ false → i < n → f i ≡ false) → f i ≡ false
+    go true e q d ih = no-way (sym q)
+    go false e q (yes k) ih = rw k q
+    go false e q (no k) ih = ih e (omega arith)
+
+count-ok : (n : ℕ) → countOk n ≡ true → (1 ≤ n) × (n ≤ 4096)
+unfolding countOk
+count-ok n h =
+    let (a, b) = yes-if (eqb n 0) (leb n 4096) h in
+    let z : n ≡ 0 → ⊥ = eqb-false n 0 a in
+    (omega (arith, z), leb-true n 4096 b)
+
+pub accepted : (P : Plan) (n : ℕ) → searchNumber P n ≡ 0 → Accepted P n
+unfolding searchNumber late
+accepted P n h =
+    let (a, r) = or-zero (planNumber P) _ h in
+    let (b, r₁) = zero-else (P .sealed) _ 11 (λ e. omega arith) r in
+    let (c, r₂) = zero-else (countOk n) _ 9 (λ e. omega arith) r₁ in
+    let (d, r₃) = zero-if (late P n) 13 0 (λ e. omega arith) r₂ in
+    let k = count-ok n c in
+    record {
+      plan = checked P a;
+      sealed = b;
+      some-readings = k .0;
+      few-readings = k .1;
+      closed = λ i l. ltb-false n (labelAt P i .q) (any-not (λ i. ltb n (labelAt P i .q)) (P .labelcount) i d l);
+    }
+
+pub accepted-point : (P : Plan) (n s : ℕ) (m : ℤ) → pointNumber P n s m ≡ 0 → AcceptedPoint P n s m
+unfolding pointNumber
+accepted-point P n s m h =
+    let (a, r) = or-zero (planNumber P) _ h in
+    let (b, r₁) = zero-else (P .sealed) _ 11 (λ e. omega arith) r in
+    let (c, r₂) = zero-else (countOk n) _ 9 (λ e. omega arith) r₁ in
+    let (d, r₃) = zero-else (ltb s (P .states)) _ 5 (λ e. omega arith) r₂ in
+    let (e, r₄) = zero-else (onGrid P m) 0 4 (λ e. omega arith) r₃ in
+    let k = count-ok n c in
+    record { plan = checked P a; sealed = b; some-readings = k .0; few-readings = k .1; state = ltb-true s (P .states) d; level = e }
+
+-- ---- none of these numbers is 16
+
+pick-low : (b : Bool) (x y k : ℕ) → x ≤ k → y ≤ k → pick b x y ≤ k
+pick-low true x y k h l = h
+pick-low false x y k h l = l
+
+first-low : (f : ℕ → ℕ) (n k : ℕ) → ((i : ℕ) → f i ≤ k) → firstBelow f n ≤ k
+unfolding firstBelow
+first-low f zero k h = omega arith
+first-low f (suc n) k h = pick-low (eqb (firstBelow f n) 0) (f n) (firstBelow f n) k (h n) (first-low f n k h)
+
+step-low : (b : Bool) (es : List Edge) (n f t k : ℕ) (r : EdgeRead) → edgeStepNumber (pick b (RefuseEdge 10) (readEdge es n f t k r)) ≤ 12
+step-low true es n f t k r = omega arith
+step-low false es n f t k Not = omega arith
+step-low false es n f t k (Is e) = go (hasEdge es n f t k)
+  where
+    go : (b : Bool) → edgeStepNumber (freshEdge b e) ≤ 12
+    go true = omega arith
+    go false = omega arith
+
+entry-low : (s : ℕ) (es : List Edge) (n : ℕ) (e : Edge) → entryNumber s es n e ≤ 12
+unfolding entryNumber edgeStep
+entry-low s es n e = step-low (leb 32 n) es n (e .from) (e .to) (kindNumber (e .kind)) (edgeOf s (e .from) (e .to) (kindNumber (e .kind)) (gapOf (e .kind)) (e .class))
+
+label-low : (ls : List Label) (n : ℕ) (l : Label) → labelNumber ls n l ≤ 12
+unfolding labelNumber
+label-low ls n l =
+    pick-low (leb 64 n) 10 _ 12 (omega arith) (pick-low (eqb (l .p) 0) 8 _ 12 (omega arith) (pick-low (leb (l .q) (l .p)) 8 _ 12 (omega arith)
+    (pick-low (ltb 4096 (l .q)) 8 _ 12 (omega arith) (pick-low (ltb 1 (l .c)) 8 _ 12 (omega arith)
+    (pick-low (eqb n 0) 0 _ 12 (omega arith) (pick-low (ltb (l .p) (getD ls (n - 1) noLabel .q)) 12 0 12 (omega arith) (omega arith)))))))
+
+pub plan-low : (P : Plan) → planNumber P ≤ 12
+unfolding planNumber openNumber edgesNumber labelsNumber
+plan-low P =
+    pick-low (eqb (openNumber (P .lo) (P .hi) (P .states) (P .start) (P .end)) 0) _ _ 12
+    (pick-low (eqb (edgesNumber (P .states) (P .edges) (P .edgecount)) 0) _ _ 12
+    (first-low (λ i. labelNumber (P .labels) i (getD (P .labels) i noLabel)) (P .labelcount) 12 (λ i. label-low (P .labels) i (getD (P .labels) i noLabel)))
+    (first-low (λ i. entryNumber (P .states) (P .edges) i (getD (P .edges) i noEdge)) (P .edgecount) 12 (λ i. entry-low (P .states) (P .edges) i (getD (P .edges) i noEdge))))
+    (pick-low (gridOk (P .lo) (P .hi)) _ 4 12 (pick-low (statesOk (P .states) (P .start) (P .end)) 0 5 12 (omega arith) (omega arith)) (omega arith))
+
+pub search-low : (P : Plan) (n : ℕ) → searchNumber P n ≤ 13
+unfolding searchNumber
+search-low P n =
+    pick-low (eqb (planNumber P) 0) _ (planNumber P) 13
+    (pick-low (P .sealed) _ 11 13 (pick-low (countOk n) _ 9 13 (pick-low (late P n) 13 0 13 (omega arith) (omega arith)) (omega arith)) (omega arith))
+    (omega (arith, plan-low P))
+
+pub point-low : (P : Plan) (n s : ℕ) (m : ℤ) → pointNumber P n s m ≤ 12
+unfolding pointNumber
+point-low P n s m =
+    pick-low (eqb (planNumber P) 0) _ (planNumber P) 12
+    (pick-low (P .sealed) _ 11 12 (pick-low (countOk n) _ 9 12 (pick-low (ltb s (P .states)) _ 5 12 (pick-low (onGrid P m) 0 4 12 (omega arith) (omega arith)) (omega arith)) (omega arith)) (omega arith))
+    (plan-low P)
+
+-- what the theorems of `Answer` and `Opt` ask
+pub fit : (P : Plan) (zs : List ℤ) → Accepted P (length zs) → Fit P zs
+fit P zs a = record { labels = a .plan .labels; ends = a .plan .ends; closed = a .closed; record′ = a .some-readings }
+
+pub need-low : (P : Plan) → Checked P → (i : ℕ) → i < P .labelcount → need (labelAt P i) < counts
+unfolding need
+need-low P c i h = omega (arith, c .small i h)

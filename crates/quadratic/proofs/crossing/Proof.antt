@@ -1,0 +1,83 @@
+-- `quadratic::crossing`: a line, by its exact crossing; convex, back from the turn and on from it; else by the chord. Assumes nothing.
+use mathlib.Core.Logic.{⊎-elim}
+use mathlib.Core.Path.{sym, _∙_}
+use native.Mathlib.Omega.{arith}
+use borrow.Author.Needs.{needs}
+use borrow.Author.Tests.{leb-true, leb-false}
+use Rattle.quadratic.specs.Quad.{Over}
+use Rattle.quadratic.proofs.Laws.{le-or-lt, under-back, under-on, under-between, under-line, line-stays, apart}
+use Rattle.quadratic.proofs.crossing.Statement.{statement}
+use Rattle.quadratic.proofs.crossing.Tie as tie
+
+returns : tie.Need-returns
+returns c = let s = c .before .before .before .before .before .before in record { low = s .pre .0 .1 .0; high = omega arith; last = λ h. omega arith; under = λ m p q. under-line _ _ _ (c .before .before .before .if1 .taken) (c .if2 .taken) (s .pre .1) m p }
+
+sub-cut : tie.Need-sub-cut
+sub-cut c = search needs
+
+mul-cut : tie.Need-mul-cut
+mul-cut c = search needs
+
+cut-requires : tie.Need-cut-requires
+cut-requires c κs = search needs
+
+returns-2 : tie.Need-returns-2
+returns-2 c = let s = c .before .before .before .before .before .before .before .before .before in line-stays _ _ _ _ _ (c .before .before .before .before .before .before .if1 .taken) (omega arith) (s .pre .1) (c .cut .ensures)
+
+sub-turn : tie.Need-sub-turn
+sub-turn c = search needs
+
+turn-requires : tie.Need-turn-requires
+turn-requires c κs = search needs
+
+under-requires : tie.Need-under-requires
+under-requires c κs = search needs
+
+returns-3 : tie.Need-returns-3
+returns-3 c = let t = c .before .before in let s = c .before .before .before .before .before .before .before .before .before .before .before in let u = leb-true _ _ (sym (c .before .under .ensures) ∙ c .if4 .taken) in record {
+  low = s .pre .0 .1 .0;
+  high = omega arith;
+  last = λ h. omega arith;
+  under = λ m p q. ⊎-elim
+      (λ g. under-back _ _ _ _ _ (c .before .before .before .before .before .if3 .taken) (t .turn .ensures) (t .turn .result) (omega arith) u m p g)
+      (λ g. under-on _ _ _ _ _ (c .before .before .before .before .before .if3 .taken) (t .turn .ensures) u m (omega arith) q)
+      (le-or-lt m (t .turn .result));
+}
+
+halve-requires : tie.Need-halve-requires
+halve-requires c κs = let t = c .before .before in let s = c .before .before .before .before .before .before .before .before .before .before .before in let o : Over (s .args .w) (s .args .l) (t .turn .result) = leb-false _ _ (sym (c .before .under .ensures) ∙ c .if4 .left) in ((s .pre .0 .0, (apart _ _ _ _ (t .turn .ensures .low) (s .pre .1) o, omega arith)), (s .pre .1, o))
+
+returns-4 : tie.Need-returns-4
+returns-4 c = let t = c .before .before .before in let e = c .halve .ensures in record { low = e .low; high = omega arith; last = λ h. e .last; under = λ m p q. under-back _ _ _ _ _ (c .before .before .before .before .before .before .if3 .taken) (t .turn .ensures) (c .halve .result) (omega arith) (e .under) m p q }
+
+under-requires-2 : tie.Need-under-requires-2
+under-requires-2 c κs = search needs
+
+returns-5 : tie.Need-returns-5
+returns-5 c = let s = c .before .before .before .before .before .before .before .before in let u = leb-true _ _ (sym (c .before .under2 .ensures) ∙ c .if5 .taken) in record { low = s .pre .0 .1 .0; high = omega arith; last = λ h. omega arith; under = λ m p q. under-between _ _ _ _ (c .before .before .if3 .left) (s .pre .1) u m p q }
+
+halve-requires-2 : tie.Need-halve-requires-2
+halve-requires-2 c κs = let s = c .before .before .before .before .before .before .before .before in let o : Over (s .args .w) (s .args .l) (s .args .y) = leb-false _ _ (sym (c .before .under2 .ensures) ∙ c .if5 .left) in ((s .pre .0 .0, (apart _ _ _ _ (s .pre .0 .1 .0) (s .pre .1) o, s .pre .0 .1 .1)), (s .pre .1, o))
+
+returns-6 : tie.Need-returns-6
+returns-6 c = let s = c .before .before .before .before .before .before .before .before .before in let e = c .halve2 .ensures in record { low = e .low; high = omega arith; last = λ h. e .last; under = λ m p q. under-between _ _ _ _ (c .before .before .before .if3 .left) (s .pre .1) (e .under) m p q }
+
+pub crossing-spec : {M : Type 1} → statement M
+crossing-spec =
+    tie.close
+    (tie.spec
+    returns
+    sub-cut
+    mul-cut
+    cut-requires
+    returns-2
+    sub-turn
+    turn-requires
+    under-requires
+    returns-3
+    halve-requires
+    returns-4
+    under-requires-2
+    returns-5
+    halve-requires-2
+    returns-6)

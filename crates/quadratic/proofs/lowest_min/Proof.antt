@@ -1,0 +1,20 @@
+-- `quadratic::lowest_min`: the slope's turn; with no square, q is level or falls. Assumes nothing.
+use native.Mathlib.Omega.{arith}
+use Rattle.quadratic.proofs.Laws.{lowest-at-turn, level, slope}
+use Rattle.quadratic.proofs.lowest_min.Statement.{statement}
+use Rattle.quadratic.proofs.lowest_min.Tie as tie
+
+returns : tie.Need-returns
+returns c = level _ _ _ (c .before .before .if1 .taken) (c .if2 .taken) (c .before .before .before .before .pre .1 .0)
+
+returns-2 : tie.Need-returns-2
+returns-2 c = slope _ _ _ (c .before .before .if1 .taken) (c .if2 .left) (c .before .before .before .before .pre .1 .0)
+
+turn-requires : tie.Need-turn-requires
+turn-requires c κs = omega arith
+
+returns-3 : tie.Need-returns-3
+returns-3 c = lowest-at-turn _ _ _ _ (c .turn .ensures)
+
+pub lowest-min-spec : {M : Type 1} → statement M
+lowest-min-spec = tie.close (tie.spec returns returns-2 turn-requires returns-3)

@@ -1,0 +1,218 @@
+-- What is in force keeps in range, whatever is done to it, and what its value becomes. Assumes nothing.
+use mathlib.Core.Path.{_≡_, refl, sym, ap, _∙_, subst}
+use mathlib.Core.Logic.{_⊎_, inl, inr, ⊎-elim}
+use mathlib.Core.Bool.{Bool, true, false}
+use Prim.Native.Nat.{ℕ, zero, suc, _+_, _*_, _-_, _≤_, _<_}
+use native.Mathlib.Nat.{mul-le-mul, mul-le-mul-left, mul-le-mul-right}
+use native.Mathlib.Omega.{arith}
+use lib.Dec.{eqb, leb}
+use borrow.Author.Tests.{eq-eqb, ne-eqb, le-leb, lt-leb}
+use lib.IntN.{ℤ, pos, negsuc, natAbs, _+ℤ_, _-ℤ_}
+use Rattle.integers.specs.Rep.{le-or-lt, iz, nz, _⊕_, _⊖_, eqN, above, below}
+use Rattle.quadratic.specs.declared.Quad.{Quad}
+use Rattle.quadratic.specs.Quad.{up, down, value, none, flat, Small, Sized, Fine, pick, raised, pushed, moved, mirrored, better}
+
+mk : ℕ → ℕ → ℕ → Quad
+mk a z c = record { a = a; z = z; c = c }
+
+pub quad-eq : (p r : Quad) → p .a ≡ r .a → p .z ≡ r .z → p .c ≡ r .c → p ≡ r
+unfolding mk
+quad-eq p r ea ez ec = ap (λ (x : ℕ). mk x (p .z) (p .c)) ea ∙ ap (λ (x : ℕ). mk (r .a) x (p .c)) ez ∙ ap (λ (x : ℕ). mk (r .a) (r .z) x) ec
+
+prod≤ : (a b m n : ℕ) → a ≤ m → b ≤ n → a * b ≤ m * n
+prod≤ a b m n = mul-le-mul
+
+-- the bounds of the whole search
+pub record Bounds (A B v : ℕ) : Type 0 where
+  pub readings : A ≤ 1048576
+  pub cost : B ≤ 18014398509481984
+  pub place : v < 262144
+
+abbrev pub far : ℕ → ℕ → ℕ
+far u v = (u - v) + (v - u)
+
+-- none with a number added is none
+abbrev pub pickN : Bool → ℕ → ℕ → ℕ
+pickN true a b = a
+pickN false a b = b
+
+abbrev pub plus : ℕ → ℕ → ℕ
+plus k x = pickN (eqb x none) x (x + k)
+
+module _ {A B v : ℕ} (b : Bounds A B v) {q : Quad} (f : Fine A B q v) where
+  av : q .a * v ≤ 1048576 * 262143
+  av = prod≤ (q .a) v 1048576 262143 (omega (arith, f .count, b .readings)) (omega (arith, b .place))
+
+  avv : q .a * (v * v) ≤ 1048576 * (262143 * 262143)
+  avv = prod≤ (q .a) (v * v) 1048576 (262143 * 262143) (omega (arith, f .count, b .readings)) (prod≤ v v 262143 262143 (omega (arith, b .place)) (omega (arith, b .place)))
+
+  pub fine-sized : Sized q
+  fine-sized = record {
+    count = omega (arith, f .count, b .readings);
+    sum = omega (arith, f .right, av, f .count, b .readings);
+    rest = ⊎-elim (λ p. omega arith) (λ p. omega (arith, p, avv, av, mul-le-mul-left v (f .right), b .cost)) (f .size);
+  }
+
+  less-none : up q v < down q v + B → q .c < none
+  less-none p = omega (arith, p, avv, av, mul-le-mul-left v (f .right), b .cost)
+
+  no-sum : q .a ≡ 0 → q .z ≡ 0
+  no-sum e = omega (arith, rw e at (f .right))
+
+  -- none, or a number
+  pub kinds : (q ≡ flat none) ⊎ ((eqb (q .c) none ≡ false) × (up q v < down q v + B))
+  kinds = ⊎-elim
+      (λ p. inl (quad-eq q (flat none) (p .0) (no-sum (p .0)) (p .1)))
+      (λ p. inr (ne-eqb (q .c) none (λ e. let h = less-none p in omega arith), p))
+      (f .size)
+
+  not-none : up q v < down q v + B → eqb (value q v) none ≡ false
+  not-none p = ne-eqb (value q v) none (λ e. omega (arith, p, b .cost))
+
+pub value-most : {A B v : ℕ} {q : Quad} → Bounds A B v → Fine A B q v → value q v ≤ none
+value-most {v = v} b f = ⊎-elim (λ e. subst (λ (p : Quad). value p v ≤ none) (sym e) (omega arith)) (λ e. omega (arith, e .1, b .cost)) (kinds b f)
+
+pub fine-none : (A B v : ℕ) → Fine A B (flat none) v
+fine-none A B v = record { count = omega arith; left = omega arith; right = omega arith; whole = omega arith; size = inl (refl, refl) }
+
+pub fine-flat : (A B v x : ℕ) → x < B → Fine A B (flat x) v
+fine-flat A B v x h = record { count = omega arith; left = omega arith; right = omega arith; whole = omega arith; size = inr (omega arith) }
+
+pub fine-wider : {A B v : ℕ} {q : Quad} (A′ B′ : ℕ) → A ≤ A′ → B ≤ B′ → Fine A B q v → Fine A′ B′ q v
+fine-wider A′ B′ h g f = record { count = omega (arith, f .count); left = f .left; right = f .right; whole = f .whole; size = ⊎-elim (λ p. inl p) (λ p. inr (omega arith)) (f .size) }
+
+-- ---- a number added
+pub fine-raised : {A B v : ℕ} {q : Quad} (k : ℕ) → Bounds A B v → Fine A B q v → Fine A (B + k) (raised k q) v
+fine-raised {A} {B} {v} {q} k b f = ⊎-elim
+    (λ e. subst (λ (p : Quad). Fine A (B + k) (raised k p) v) (sym e) (fine-none A (B + k) v))
+    (λ e. rw (e .0) (let l = e .1 in record { count = f .count; left = f .left; right = f .right; whole = omega (arith, f .whole); size = inr (omega arith) }))
+    (kinds b f)
+
+pub value-raised : {A B v : ℕ} {q : Quad} (k : ℕ) → Bounds A B v → Fine A B q v → value (raised k q) v ≡ plus k (value q v)
+value-raised {A} {B} {v} {q} k b f = ⊎-elim
+    (λ e. subst (λ (p : Quad). value (raised k p) v ≡ plus k (value p v)) (sym e) flat-one)
+    (λ e. rw (e .0, not-none b f (e .1)) (omega (arith, f .whole)))
+    (kinds b f)
+  where
+    at : value (flat none) v ≡ none
+    at = omega arith
+
+    flat-one : value (raised k (flat none)) v ≡ plus k (value (flat none) v)
+    flat-one = rw at
+
+-- ---- a reading added
+pub square : (u v : ℕ) → far u v * far u v + 2 * (u * v) ≡ u * u + v * v
+square u v = ⊎-elim
+    (λ h. let e : u + (v - u) ≡ v = omega arith in subst (λ w. far u w * far u w + 2 * (u * w) ≡ u * u + w * w) e (lower u (v - u)))
+    (λ h. let e : v + (u - v) ≡ u = omega arith in subst (λ w. far w v * far w v + 2 * (w * v) ≡ w * w + v * v) e (upper v (u - v)))
+    (le-or-lt u v)
+  where
+    lower : (u i : ℕ) → far u (u + i) * far u (u + i) + 2 * (u * (u + i)) ≡ u * u + (u + i) * (u + i)
+    lower u i = let d : far u (u + i) ≡ i = omega arith in rw d (omega arith)
+
+    upper : (v i : ℕ) → far (v + i) v * far (v + i) v + 2 * ((v + i) * v) ≡ (v + i) * (v + i) + v * v
+    upper v i = let d : far (v + i) v ≡ i = omega arith in rw d (omega arith)
+
+pub fine-pushed : {A B v : ℕ} {q : Quad} (u : ℕ) → far u v ≤ 65535 → Bounds A B v → Fine A B q v → Fine (A + 1) (B + 4294836225) (pushed u q) v
+fine-pushed {A} {B} {v} {q} u h b f = ⊎-elim
+    (λ e. subst (λ (p : Quad). Fine (A + 1) (B + 4294836225) (pushed u p) v) (sym e) (fine-none (A + 1) (B + 4294836225) v))
+    (λ e. rw (e .0) (record {
+      count = omega (arith, f .count);
+      left = omega (arith, f .left);
+      right = omega (arith, f .right);
+      whole = omega (arith, f .whole, square u v);
+      size = inr (omega (arith, e .1, square u v, far²));
+    }))
+    (kinds b f)
+  where
+    far² : far u v * far u v ≤ 65535 * 65535
+    far² = mul-le-mul h h
+
+pub value-pushed : {A B v : ℕ} {q : Quad} (u : ℕ) → Bounds A B v → Fine A B q v → value (pushed u q) v ≡ plus (far u v * far u v) (value q v)
+value-pushed {A} {B} {v} {q} u b f = ⊎-elim
+    (λ e. subst (λ (p : Quad). value (pushed u p) v ≡ plus (far u v * far u v) (value p v)) (sym e) flat-one)
+    (λ e. rw (e .0, not-none b f (e .1)) (omega (arith, f .whole, square u v)))
+    (kinds b f)
+  where
+    at : value (flat none) v ≡ none
+    at = omega arith
+
+    flat-one : value (pushed u (flat none)) v ≡ plus (far u v * far u v) (value (flat none) v)
+    flat-one = rw at
+
+-- ---- levels moved
+moved-is : (a z c g v : ℕ) → a * ((v + g) * (v + g)) + (c + (2 * (z * g) + a * (g * g))) + 2 * (z * v) ≡ a * (v * v) + c + 2 * ((z + a * g) * (v + g))
+moved-is a z c g v = omega arith
+
+pub fine-moved : {A B v : ℕ} {q : Quad} (g : ℕ) → Fine A B q v → Fine A B (moved g q) (v + g)
+fine-moved {A} {B} {v} {q} g f =
+    let m = moved-is (q .a) (q .z) (q .c) g v in
+    record {
+      count = f .count;
+      left = omega (arith, f .left);
+      right = omega (arith, f .right);
+      whole = omega (arith, f .whole);
+      size = ⊎-elim (λ p. inl (p .0, rest (p .0) (p .1))) (λ p. inr (omega arith)) (f .size);
+    }
+  where
+    rest : q .a ≡ 0 → q .c ≡ none → q .c + (2 * (q .z * g) + q .a * (g * g)) ≡ none
+    rest e h = let z : q .z ≡ 0 = omega (arith, rw e at (f .right)) in rw (e, z) (omega arith)
+
+pub value-moved : {A B v : ℕ} {q : Quad} (g : ℕ) → Fine A B q v → value (moved g q) (v + g) ≡ value q v
+value-moved {A} {B} {v} {q} g f = omega (arith, f .whole, moved-is (q .a) (q .z) (q .c) g v)
+
+-- ---- levels mirrored: v and w are each other's
+module _ {A B v : ℕ} {q : Quad} (w : ℕ) (h : 131070 ≤ w) (f : Fine A B q v) where
+  pub mirror-sum : q .z ≤ q .a * (v + w)
+  mirror-sum = omega (arith, f .right, mul-le-mul-left (q .a) h)
+
+  pub mirror-rest : 2 * (q .z * (v + w)) ≤ q .a * ((v + w) * (v + w)) + q .c
+  mirror-rest = omega (arith, f .whole, mul-le-mul-left w (f .right), mul-le-mul-left (q .a * w) h)
+
+  mirrored-is : up (mirrored (v + w) q) w + down q v ≡ up q v + down (mirrored (v + w) q) w
+  mirrored-is = turn (q .a) (q .z) (q .c) (mirrored (v + w) q .z) (mirrored (v + w) q .c) (omega (arith, mirror-sum)) (omega (arith, mirror-rest))
+    where
+      turn : (a z c Z C : ℕ) → Z + z ≡ a * (v + w) → C + 2 * (z * (v + w)) ≡ a * ((v + w) * (v + w)) + c → a * (w * w) + C + 2 * (z * v) ≡ a * (v * v) + c + 2 * (Z * w)
+      turn a z c Z C e g = omega (arith, ap (λ (t : ℕ). t * w) e)
+
+  pub fine-mirrored : Fine A B (mirrored (v + w) q) w
+  fine-mirrored =
+      let m = mirrored-is in
+      record {
+        count = f .count;
+        left = omega (arith, f .right);
+        right = omega (arith, f .left);
+        whole = omega (arith, f .whole);
+        size = ⊎-elim (λ p. inl (p .0, rest (p .0) (p .1))) (λ p. inr (omega arith)) (f .size);
+      }
+    where
+      rest : q .a ≡ 0 → q .c ≡ none → q .a * ((v + w) * (v + w)) + q .c - 2 * (q .z * (v + w)) ≡ none
+      rest e g = let z : q .z ≡ 0 = omega (arith, rw e at (f .right)) in rw (e, z) (omega arith)
+
+  pub value-mirrored : value (mirrored (v + w) q) w ≡ value q v
+  value-mirrored = omega (arith, f .whole, mirrored-is)
+
+-- ---- the better of two
+pub value-better : {A B v : ℕ} {p q : Quad} → Fine A B p v → Fine A B q v → value (better v p q) v ≡ pickN (leb (value p v) (value q v)) (value p v) (value q v)
+value-better {v = v} {p = p} {q = q} f g = ⊎-elim
+    (λ h. rw (le-leb (up p v + down q v) (up q v + down p v) h, le-leb (value p v) (value q v) (omega (arith, f .whole, g .whole))))
+    (λ h. rw (lt-leb (up p v + down q v) (up q v + down p v) h, lt-leb (value p v) (value q v) (omega (arith, f .whole, g .whole))))
+    (le-or-lt (up p v + down q v) (up q v + down p v))
+
+pub fine-better : {A B v : ℕ} {p q : Quad} → Fine A B p v → Fine A B q v → Fine A B (better v p q) v
+fine-better {A} {B} {v} {p} {q} f g = chosen (leb (up p v + down q v) (up q v + down p v))
+  where
+    chosen : (b : Bool) → Fine A B (pick b p q) v
+    chosen true = f
+    chosen false = g
+
+-- places are as far apart as the signed levels
+pub far-signed : (x m : ℤ) (u v : ℕ) → pos u ≡ x +ℤ pos 163840 → pos v ≡ m +ℤ pos 163840 → natAbs (x -ℤ m) ≡ far u v
+far-signed x m u v ex em =
+    let a = eqN (nz u) (iz x ⊕ nz 163840) ex in
+    let b = eqN (nz v) (iz m ⊕ nz 163840) em in
+    size (x -ℤ m) u v (omega (arith, (iz x ⊖ iz m) .is))
+  where
+    size : (z : ℤ) (u v : ℕ) → u + below z ≡ above z + v → natAbs z ≡ far u v
+    size (pos a) u v e = omega arith
+    size (negsuc a) u v e = omega arith

@@ -1,0 +1,122 @@
+-- A whole-number quadratic a·v² − 2·z·v + c on places v = m + 163840 of signed levels m, in ℕ: its value is `up` less `down`.
+-- Nothing here subtracts: orders of values are orders of sums. Assumes nothing.
+use mathlib.Core.Path.{_≡_}
+use mathlib.Core.Logic.{_⊎_}
+use mathlib.Core.Bool.{Bool, true, false}
+use Prim.Native.Nat.{ℕ, _+_, _*_, _-_, _≤_, _<_}
+use lib.Dec.{leb, eqb}
+use Rattle.quadratic.specs.declared.Quad.{Quad}
+
+abbrev pub up : Quad → ℕ → ℕ
+up q v = q .a * (v * v) + q .c
+
+abbrev pub down : Quad → ℕ → ℕ
+down q v = 2 * (q .z * v)
+
+abbrev pub value : Quad → ℕ → ℕ
+value q v = up q v - down q v
+
+-- the cost of what is not there, and the quadratic that has it everywhere
+abbrev pub none : ℕ
+none = 1152921504606846976
+
+abbrev pub flat : ℕ → Quad
+flat x = record { a = 0; z = 0; c = x }
+
+abbrev pub ground : ℕ
+ground = 131072
+
+abbrev pub ceiling : ℕ
+ceiling = 262144
+
+-- the ranges within which nothing that is computed wraps
+pub record Small (q : Quad) : Type 0 where
+  pub count : q .a ≤ 1048576
+  pub sum : q .z ≤ 549755813888
+  pub rest : q .c < 2305843009213693952
+
+-- the ranges of those that are kept: there is room for one more
+pub record Sized (q : Quad) : Type 0 where
+  pub count : q .a ≤ 1048576
+  pub sum : q .z ≤ 549755813888
+  pub rest : q .c ≤ 1152921504606846976
+
+-- what holds of a quadratic at a place where it is in force: no more than A readings, each at most 65535 from v; its value is not
+-- below zero; and it is none, or its value is less than B
+pub record Fine (A B : ℕ) (q : Quad) (v : ℕ) : Type 0 where
+  pub count : q .a ≤ A
+  pub left : q .a * v ≤ q .z + 65535 * q .a
+  pub right : q .z ≤ q .a * v + 65535 * q .a
+  pub whole : down q v ≤ up q v
+  pub size : ((q .a ≡ 0) × (q .c ≡ none)) ⊎ (up q v < down q v + B)
+
+-- q at r is at most q at m; less than it
+abbrev pub AtMost : Quad → ℕ → ℕ → Type 0
+AtMost q r m = up q r + down q m ≤ up q m + down q r
+
+abbrev pub Less : Quad → ℕ → ℕ → Type 0
+Less q r m = up q r + down q m < up q m + down q r
+
+-- w is at most l at v; l is less than w at v
+abbrev pub Under : Quad → Quad → ℕ → Type 0
+Under w l v = up w v + down l v ≤ up l v + down w v
+
+abbrev pub Over : Quad → Quad → ℕ → Type 0
+Over w l v = up l v + down w v < up w v + down l v
+
+-- r is the lowest place of [x, y] at which q is least
+pub record Lowest (q : Quad) (x y r : ℕ) : Type 0 where
+  pub low : x ≤ r
+  pub high : r ≤ y
+  pub least : (m : ℕ) → x ≤ m → m ≤ y → AtMost q r m
+  pub first : (m : ℕ) → x ≤ m → m < r → Less q r m
+  pub falls : (m : ℕ) → x ≤ m → m < r → Less q (m + 1) m
+
+-- r is the quotient of p less q by d, rounded down, or the end of [x, y] that is nearest to it
+pub record Cut (p q d x y r : ℕ) : Type 0 where
+  pub low : x ≤ r
+  pub high : r ≤ y
+  pub under : (m : ℕ) → x ≤ m → m < r → d * (m + 1) + q ≤ p
+  pub over : (m : ℕ) → r ≤ m → m < y → p < d * (m + 1) + q
+
+-- r is where the slope e·(2·v + 1) + 2·g − 2·f turns from below zero within [x, y]
+pub record Turns (e f g x y r : ℕ) : Type 0 where
+  pub low : x ≤ r
+  pub high : r ≤ y
+  pub falls : (m : ℕ) → x ≤ m → m < r → e * (2 * m + 1) + 2 * g < 2 * f
+  pub rises : (m : ℕ) → r ≤ m → m < y → 2 * f ≤ e * (2 * m + 1) + 2 * g
+
+-- w is at most l from x to r, and r is y or w is over l at the next place
+pub record Stays (w l : Quad) (x y r : ℕ) : Type 0 where
+  pub low : x ≤ r
+  pub high : r ≤ y
+  pub under : (m : ℕ) → x ≤ m → m ≤ r → Under w l m
+  pub last : r < y → Over w l (r + 1)
+
+-- the last place under within lo and hi, found by halving
+pub record Halved (w l : Quad) (lo hi r : ℕ) : Type 0 where
+  pub low : lo ≤ r
+  pub high : r < hi
+  pub under : Under w l r
+  pub last : Over w l (r + 1)
+
+abbrev pub pick : Bool → Quad → Quad → Quad
+pick true a b = a
+pick false a b = b
+
+-- what is done to a quadratic; none stays none where a number is added
+abbrev pub raised : ℕ → Quad → Quad
+raised k q = pick (eqb (q .c) none) q (record { a = q .a; z = q .z; c = q .c + k })
+
+abbrev pub pushed : ℕ → Quad → Quad
+pushed u q = pick (eqb (q .c) none) q (record { a = q .a + 1; z = q .z + u; c = q .c + u * u })
+
+abbrev pub moved : ℕ → Quad → Quad
+moved g q = record { a = q .a; z = q .z + q .a * g; c = q .c + (2 * (q .z * g) + q .a * (g * g)) }
+
+abbrev pub mirrored : ℕ → Quad → Quad
+mirrored s q = record { a = q .a; z = q .a * s - q .z; c = q .a * (s * s) + q .c - 2 * (q .z * s) }
+
+-- the one that is less at v, the first where they are equal
+abbrev pub better : ℕ → Quad → Quad → Quad
+better v p q = pick (leb (up p v + down q v) (up q v + down p v)) p q

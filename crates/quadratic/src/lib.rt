@@ -1,0 +1,180 @@
+// Quadratics on the places of signed levels, counted from -163840: all unsigned.
+ghost use mathlib.Core.Path.{_≡_};
+ghost use mathlib.Core.Bool.{true, false};
+ghost use Prim.Native.Nat.{ℕ, _+_, _*_, _-_, _≤_, _<_};
+ghost use lib.Dec.{leb};
+ghost use Rattle.quadratic.specs.Quad.{Small, Fine, Lowest, Cut, Turns, Stays, Halved, raised, pushed, moved, mirrored, up, down, Under, Over, value};
+
+pub const NONE: u64 = 1152921504606846976;
+
+pub struct Quad {
+    pub a: u64,
+    pub z: u64,
+    pub c: u64,
+}
+
+// The halves of a value.
+fn rise(a: u64, c: u64, v: u64) -> u64
+    requires { ⌜ (a ≤ 1048576) × ((c < 2305843009213693952) × (v < 262144)) ⌝ }
+    ensures { λ r. ⌜ (r ≡ a * (v * v) + c) × (r ≤ 2377900603251621888) ⌝ }
+{
+    a * (v * v) + c
+}
+
+fn fall(z: u64, v: u64) -> u64
+    requires { ⌜ (z ≤ 549755813888) × (v < 262144) ⌝ }
+    ensures { λ r. ⌜ (r ≡ 2 * (z * v)) × (r ≤ 288230376151711744) ⌝ }
+{
+    2 * (z * v)
+}
+
+// The value at v.
+pub fn eval(q: Quad, v: u64) -> u64
+    requires { ⌜ Small q × ((v < 262144) × (down q v ≤ up q v)) ⌝ }
+    ensures { λ r. ⌜ r ≡ value q v ⌝ }
+{
+    rise(q.a, q.c, v) - fall(q.z, v)
+}
+
+// Whether w is at most l at v.
+pub fn under(w: Quad, l: Quad, v: u64) -> bool
+    requires { ⌜ Small w × (Small l × (v < 262144)) ⌝ }
+    ensures { λ r. ⌜ r ≡ leb (up w v + down l v) (up l v + down w v) ⌝ }
+{
+    rise(w.a, w.c, v) + fall(l.z, v) <= rise(l.a, l.c, v) + fall(w.z, v)
+}
+
+// (p - q) / d on signed levels, rounded down: its place within [x, y].
+pub fn cut(p: u64, q: u64, d: u64, x: u64, y: u64) -> u64
+    requires { ⌜ ((p < 2305843009213693952) × (q < 2305843009213693952)) × ((0 < d) × (d ≤ 2199023255552)) ⌝ }
+    requires { ⌜ (x ≤ y) × (y < 262144) ⌝ }
+    ensures { λ r. ⌜ Cut p q d x y r ⌝ }
+{
+    let n = integers::less(p, q + d * 163840);
+    let m = integers::floor_div(n, integers::less(d, 0));
+    integers::place(m, x, y)
+}
+
+// Where the slope turns, clamped.
+pub fn turn(e: u64, f: u64, g: u64, x: u64, y: u64) -> u64
+    requires { ⌜ ((0 < e) × (e ≤ 1048576)) × ((f ≤ 549755813888) × (g ≤ 549755813888)) ⌝ }
+    requires { ⌜ (x ≤ y) × (y < 262144) ⌝ }
+    ensures { λ r. ⌜ Turns e f g x y r ⌝ }
+{
+    cut(2 * f + e - 1, 2 * g, 2 * e, x, y)
+}
+
+// The lowest level of [x, y] at which q is least.
+pub fn lowest_min(q: Quad, x: u64, y: u64) -> u64
+    requires { ⌜ Small q × ((x ≤ y) × (y < 262144)) ⌝ }
+    ensures { λ r. ⌜ Lowest q x y r ⌝ }
+{
+    if q.a == 0 {
+        if q.z == 0 {
+            return x;
+        }
+        return y;
+    }
+    turn(q.a, q.z, 0, x, y)
+}
+
+// The last level under, where lo is under and hi is over.
+pub fn halve(w: Quad, l: Quad, lo: u64, hi: u64) -> u64
+    requires { ⌜ (Small w × Small l) × ((lo < hi) × (hi < 262144)) ⌝ }
+    requires { ⌜ Under w l lo × Over w l hi ⌝ }
+    ensures { λ r. ⌜ Halved w l lo hi r ⌝ }
+{
+    let mut b = lo;
+    let mut e = hi;
+    while 1 < e - b {
+        let m = b + (e - b) / 2;
+        if under(w, l, m) {
+            b = m;
+        } else {
+            e = m;
+        }
+    }
+    b
+}
+
+// How far from x on w stays at most l.
+pub fn crossing(w: Quad, l: Quad, x: u64, y: u64) -> u64
+    requires { ⌜ (Small w × Small l) × ((x ≤ y) × (y < 262144)) ⌝ }
+    requires { ⌜ Under w l x ⌝ }
+    ensures { λ r. ⌜ Stays w l x y r ⌝ }
+{
+    if w.a == l.a {
+        if l.z <= w.z {
+            return y;
+        }
+        return cut(l.c, w.c, 2 * (l.z - w.z), x, y);
+    }
+    if w.a < l.a {
+        let k = turn(l.a - w.a, l.z, w.z, x, y);
+        if under(w, l, k) {
+            return y;
+        }
+        return halve(w, l, x, k);
+    }
+    if under(w, l, y) {
+        return y;
+    }
+    halve(w, l, x, y)
+}
+
+// q with k more at every level; none stays none.
+pub fn raise(q: Quad, k: u64) -> Quad
+    requires { ⌜ Small q × (k ≤ 1152921504606846976) ⌝ }
+    ensures { λ r. ⌜ r ≡ raised k q ⌝ }
+{
+    if q.c == NONE {
+        q
+    } else {
+        Quad {
+            a: q.a,
+            z: q.z,
+            c: q.c + k,
+        }
+    }
+}
+
+// q with the square (u - v)² more: one reading more; none stays none.
+pub fn push(q: Quad, u: u64) -> Quad
+    requires { ⌜ Small q × (u < 262144) ⌝ }
+    ensures { λ r. ⌜ r ≡ pushed u q ⌝ }
+{
+    if q.c == NONE {
+        q
+    } else {
+        Quad {
+            a: q.a + 1,
+            z: q.z + u,
+            c: q.c + u * u,
+        }
+    }
+}
+
+// q with every level moved up by g.
+pub fn shifted(q: Quad, g: u64) -> Quad
+    requires { ⌜ Small q × (g < 1024) ⌝ }
+    ensures { λ r. ⌜ r ≡ moved g q ⌝ }
+{
+    Quad {
+        a: q.a,
+        z: q.z + q.a * g,
+        c: q.c + (2 * (q.z * g) + q.a * (g * g)),
+    }
+}
+
+// q with each level v at the place of s - v.
+pub fn turned(q: Quad, s: u64) -> Quad
+    requires { ⌜ Small q × (s < 524288) ⌝ }
+    requires { ⌜ (q .z ≤ q .a * s) × (2 * (q .z * s) ≤ q .a * (s * s) + q .c) ⌝ }
+    ensures { λ r. ⌜ r ≡ mirrored s q ⌝ }
+{
+    Quad {
+        a: q.a,
+        z: q.a * s - q.z,
+        c: q.a * (s * s) + q.c - 2 * (q.z * s),
+    }
+}
