@@ -1,0 +1,11 @@
+-- The sixteen penalties.
+use Prim.Native.Nat.{ℕ}
+use mathlib.Core.List.{List, [], _∷_}
+use lib.ListN.{getD}
+
+-- class 0 to class 15
+abbrev pub penalties : List ℕ
+penalties = 0 ∷ 1 ∷ 2 ∷ 5 ∷ 10 ∷ 20 ∷ 50 ∷ 100 ∷ 200 ∷ 500 ∷ 1000 ∷ 2000 ∷ 5000 ∷ 10000 ∷ 20000 ∷ 50000 ∷ []
+
+unfoldable pub penalty : ℕ → ℕ
+penalty class = getD penalties class 0
