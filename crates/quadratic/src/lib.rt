@@ -138,18 +138,18 @@ pub fn raise(q: Quad, k: u64) -> Quad
     }
 }
 
-// q with the square (u - v)² more: one reading more; none stays none.
-pub fn push(q: Quad, u: u64) -> Quad
-    requires { ⌜ Small q × (u < 262144) ⌝ }
-    ensures { λ r. ⌜ r ≡ pushed u q ⌝ }
+// q with w times the square (u - v)² more: one reading of weight w more; none stays none.
+pub fn push(q: Quad, u: u64, w: u64) -> Quad
+    requires { ⌜ Small q × ((u < 262144) × (w < 256)) ⌝ }
+    ensures { λ r. ⌜ r ≡ pushed w u q ⌝ }
 {
     if q.c == NONE {
         q
     } else {
         Quad {
-            a: q.a + 1,
-            z: q.z + u,
-            c: q.c + u * u,
+            a: q.a + w,
+            z: q.z + w * u,
+            c: q.c + w * (u * u),
         }
     }
 }
