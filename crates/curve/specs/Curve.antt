@@ -14,11 +14,11 @@ use borrow.Author.Tests.{le-leb, lt-leb, lt-ltb, le-ltb}
 use Rattle.integers.specs.Rep.{le-or-lt}
 use Rattle.quadratic.specs.declared.Quad.{Quad}
 use Rattle.quadratic.specs.Quad.{up, down, value, none, flat, Small, Sized, Fine, pick, raised, pushed, moved, mirrored, better}
-use Rattle.quadratic.specs.Fine.{Bounds, far, plus, fine-sized, fine-none, fine-flat, fine-wider, fine-raised, value-raised, fine-pushed, value-pushed, fine-moved, value-moved, mirror-sum, mirror-rest, fine-mirrored, value-mirrored, value-better, fine-better, value-most, kinds}
+use Rattle.quadratic.specs.Fine.{Bounds, far, plus, square-most, fine-sized, fine-none, fine-flat, fine-wider, fine-raised, value-raised, fine-pushed, value-pushed, fine-moved, value-moved, mirror-sum, mirror-rest, fine-mirrored, value-mirrored, value-better, fine-better, value-most, kinds}
 use Rattle.curve.specs.declared.Low.{Low}
 use Rattle.curve.specs.Pieces.{pickN, piece, Formed, Kept, Apart, Made, Held, Lent, Copied, shiftOf, mirrorOf, Turnable}
-use Rattle.curve.specs.Lists.{kept-formed, kept-piece, count-most, built-none, closed}
-use Rattle.curve.specs.Lows.{top, costs, Least, lowest, prefixOf, lowest-zero, lowest-new, lowest-old, lowest-among, prefix-new, prefix-old}
+use Rattle.curve.specs.Lists.{kept-formed, kept-piece, count-most, closed, copied-built}
+use Rattle.curve.specs.Lows.{top, costs, Least, LeastIn, lowest, prefixOf, lowest-zero, lowest-new, lowest-old, lowest-among, prefix-new, prefix-old}
 
 -- a piece that costs x at v
 pub record Costs (A B v : ℕ) (q : Quad) (x : ℕ) : Type 0 where
@@ -103,10 +103,10 @@ curve-least {A} {B} {C} {base} {L} {ws} {ws′} {f} {g} {dst} {F} {G} pen hb l c
         let q = fine-wider A B (omega arith) hb (fine-raised pen b (cg .at j h .fine)) in
         record { fine = fine-better (cf .at j h .fine) q; is = value-better (cf .at j h .fine) q ∙ rw (value-raised pen b (cg .at j h .fine), cf .at j h .is, cg .at j h .is) refl }
 
-pub curve-loss : {A B base L : ℕ} {ws ws′ : List ℕ} {f dst : ℕ} {F : ℕ → ℕ} (u : ℕ) → ((j : ℕ) → j < L → far u (base + j) ≤ 65535) → Limits A B base L → Curve A B base L ws f F → dst + 4 * L ≤ length ws
-    → Made (λ (j : ℕ). pushed u (piece ws f L j)) ws ws′ dst L → Curve (A + 1) (B + 4294836225) base L ws′ dst (λ (j : ℕ). plus (far u (base + j) * far u (base + j)) (F j))
-curve-loss {base = base} {F = F} u d l c r m = made-curve (λ (j : ℕ). plus (far u (base + j) * far u (base + j)) (F j)) r m
-    (λ j h. record { fine = fine-pushed u (d j h) (bounds l j h) (c .at j h .fine); is = value-pushed u (bounds l j h) (c .at j h .fine) ∙ ap (plus (far u (base + j) * far u (base + j))) (c .at j h .is) })
+pub curve-loss : {A B base L : ℕ} {ws ws′ : List ℕ} {f dst : ℕ} {F : ℕ → ℕ} (w u : ℕ) → ((j : ℕ) → j < L → far u (base + j) ≤ 65535) → Limits A B base L → Curve A B base L ws f F → dst + 4 * L ≤ length ws
+    → Made (λ (j : ℕ). pushed w u (piece ws f L j)) ws ws′ dst L → Curve (A + w) (B + w * square-most) base L ws′ dst (λ (j : ℕ). plus (w * (far u (base + j) * far u (base + j))) (F j))
+curve-loss {base = base} {F = F} w u d l c r m = made-curve (λ (j : ℕ). plus (w * (far u (base + j) * far u (base + j))) (F j)) r m
+    (λ j h. record { fine = fine-pushed w u (d j h) (bounds l j h) (c .at j h .fine); is = value-pushed w u (bounds l j h) (c .at j h .fine) ∙ ap (plus (w * (far u (base + j) * far u (base + j)))) (c .at j h .is) })
 
 pub curve-shift : {A B base L : ℕ} {ws ws′ : List ℕ} {f dst : ℕ} {F : ℕ → ℕ} (g : ℕ) → Curve A B base L ws f F → dst + 4 * L ≤ length ws
     → Made (shiftOf g (piece ws f L)) ws ws′ dst L → Curve A B base L ws′ dst (λ (j : ℕ). pickN (leb g j) (F (j - g)) none)
@@ -163,14 +163,17 @@ curve-prefix {A} {B} {base} {L} {ws} {ws′} {f} {dst} {F} l c r m = made-curve 
         (le-or-lt (lowest G j) (G j))
 
 -- the least on a range
-pub curve-least-in : {A B base L : ℕ} {ws : List ℕ} {o : ℕ} {F : ℕ → ℕ} {from to : ℕ} {r : Low} → Curve A B base L ws o F → to < L → Least (costs base (piece ws o L)) from to r → Least F from to r
-curve-least-in c h t = record {
-  low = t .low;
-  high = t .high;
-  is = t .is ∙ c .at _ (omega (arith, t .high)) .is;
-  least = λ m u v. omega (arith, t .least m u v, c .at m (omega arith) .is);
-  first = λ m u v. omega (arith, t .first m u v, c .at m (omega (arith, t .high)) .is);
-}
+pub curve-least-in : {A B base L : ℕ} {ws : List ℕ} {o : ℕ} {F : ℕ → ℕ} {from to : ℕ} {r : Low} → Curve A B base L ws o F → to < L → LeastIn (costs base (piece ws o L)) from to r → LeastIn F from to r
+curve-least-in {base = base} {L} {ws} {o} {F} {from} {to} {r} c h t = record { some = λ g. least (t .some g); empty = t .empty }
+  where
+    least : Least (costs base (piece ws o L)) from to r → Least F from to r
+    least t = record {
+      low = t .low;
+      high = t .high;
+      is = t .is ∙ c .at _ (omega (arith, t .high)) .is;
+      least = λ m u v. omega (arith, t .least m u v, c .at m (omega arith) .is);
+      first = λ m u v. omega (arith, t .first m u v, c .at m (omega (arith, t .high)) .is);
+    }
 
 -- lists side by side, by their numbers, share no word
 pub slots-apart : (len i k : ℕ) → (i ≡ k → ⊥) → Apart (i * len) (k * len) len
@@ -182,11 +185,11 @@ slots-apart len i k n = ⊎-elim (λ h. inr (above i k h)) (λ h. inl (above k i
     above : (i k : ℕ) → k < i → k * len + len ≤ i * len
     above i k h = omega (arith, mul-le-mul-right len h)
 
--- a copy
+-- a copy, of as many pieces
 pub copied-curve : {A B base L : ℕ} {ws ws′ : List ℕ} {o dst r : ℕ} {F : ℕ → ℕ} → dst + 4 * r ≤ length ws → Copied ws ws′ o dst L r → Curve A B base L ws o F → Curve A B base L ws′ dst F
 copied-curve {A} {B} {base} {L} {ws} {ws′} {o} {dst} {r} {F} h m c =
-    let b = m .emits .built (piece ws o L) (λ j u v. refl) (built-none ws dst) in
+    let b = copied-built (c .held .formed) m in
     record {
-      held = record { formed = record { count = r; ends = b .ends; rising = b .rising }; room = omega (arith, m .emits .kept .size) };
+      held = record { formed = record { count = r; ends = b .ends; rising = b .rising }; room = omega (arith, m .kept .size) };
       at = λ j k. subst (λ (q : Quad). Costs A B (base + j) q (F j)) (sym (closed b j k)) (c .at j k);
     }

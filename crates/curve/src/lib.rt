@@ -6,7 +6,7 @@ ghost use mathlib.Core.Logic.{_⊎_};
 ghost use Prim.Native.Nat.{ℕ, _+_, _*_, _-_, _≤_, _<_};
 ghost use lib.ListN.{length, getD};
 ghost use Rattle.quadratic.specs.Quad.{Small, Sized, Fine, raised, pushed, moved, mirrored, better, value, flat, none, up, down, Over};
-ghost use Rattle.curve.specs.Lows.{Least, Drops, Prefixed, Lowered, prefixOf, costs, lowest};
+ghost use Rattle.curve.specs.Lows.{LeastIn, Drops, Prefixed, Lowered, prefixOf, costs, lowest};
 ghost use Rattle.curve.specs.Pieces.{quadAt, Kept, Built, Is, Formed, piece, Stored, Appended, Emits, Made, Apart, Held, Lent, Copyable, Copied, startOf, endOf, endsBelow, shiftOf, mirrorOf, Turnable};
 
 // The piece at a place, without its end.
@@ -143,12 +143,12 @@ pub fn least2(ws: &mut [u64], f: usize, g: usize, pen: u64, dst: usize, levels: 
     }
 }
 
-// dst: f with the square (u - v)² more at each level.
-pub fn add_loss(ws: &mut [u64], f: usize, u: u64, dst: usize, levels: u64)
+// dst: f with w times the square (u - v)² more at each level.
+pub fn add_loss(ws: &mut [u64], f: usize, u: u64, w: u64, dst: usize, levels: u64)
     requires { ⌜ Lent (now ws) f dst (4 * levels) levels × (dst + 4 * levels ≤ length (now ws)) ⌝ }
-    requires { ⌜ (u < 262144) × (levels ≤ 262144) ⌝ }
+    requires { ⌜ ((u < 262144) × (w < 256)) × (levels ≤ 262144) ⌝ }
     requires { ⌜ ((j : ℕ) → j < levels → Sized (piece (now ws) f levels j)) ⌝ }
-    ensures { λ r. ⌜ Made (λ (j : ℕ). pushed u (piece (now (ws .entry)) f levels j)) (now (ws .entry)) (now (ws .exit)) dst levels ⌝ }
+    ensures { λ r. ⌜ Made (λ (j : ℕ). pushed w u (piece (now (ws .entry)) f levels j)) (now (ws .entry)) (now (ws .exit)) dst levels ⌝ }
 {
     let mut i: usize = 0;
     let mut n: usize = 0;
@@ -157,7 +157,7 @@ pub fn add_loss(ws: &mut [u64], f: usize, u: u64, dst: usize, levels: u64)
         let at = f + 4 * i;
         let e = ws[at];
         let p = load(ws, at);
-        let q = quadratic::push(p, u);
+        let q = quadratic::push(p, u, w);
         n = append(ws, dst, n, e, q);
         i += 1;
         x = e + 1;
@@ -349,12 +349,12 @@ fn lower(best: Low, p: Quad, a: u64, b: u64, base: u64) -> Low
     }
 }
 
-// The least of f at the levels from .. to, and the lowest level that has it.
+// The least of f at the levels from .. to, and the lowest level that has it; more than none where there is no such level.
 pub fn least_in(ws: &[u64], f: usize, from: u64, to: u64, levels: u64, base: u64) -> Low
     requires { ⌜ Held (now ws) f levels × (base + levels ≤ 262144) ⌝ }
-    requires { ⌜ (from ≤ to) × (to < levels) ⌝ }
+    requires { ⌜ to < levels ⌝ }
     requires { ⌜ ((j : ℕ) → j < levels → Fine 1048576 18014398509481984 (piece (now ws) f levels j) (base + j)) ⌝ }
-    ensures { λ r. ⌜ Least (costs base (piece (now (ws .entry)) f levels)) from to r ⌝ }
+    ensures { λ r. ⌜ LeastIn (costs base (piece (now (ws .entry)) f levels)) from to r ⌝ }
 {
     let mut best = Low {
         value: quadratic::NONE + 1,
@@ -383,21 +383,39 @@ pub fn constant(ws: &mut [u64], dst: usize, levels: u64, c: u64)
     flat_to(ws, dst, 0, 0, levels, c);
 }
 
-// The list of f put at dst, in as many pieces as are returned.
+// The words of the list at f put at dst: four for each of the pieces, whose number is returned.
 pub fn copy(ws: &mut [u64], f: usize, dst: usize, levels: u64) -> usize
     requires { ⌜ Copyable (now ws) f dst levels × (levels ≤ 262144) ⌝ }
     ensures { λ r. ⌜ Copied (now (ws .entry)) (now (ws .exit)) f dst levels r ⌝ }
 {
+    let n = count(ws, f, levels);
     let mut i: usize = 0;
-    let mut n: usize = 0;
-    let mut x: u64 = 0;
-    while x < levels {
-        let at = f + 4 * i;
-        let e = ws[at];
-        let p = load(ws, at);
-        n = append(ws, dst, n, e, p);
+    while i < 4 * n {
+        ws[dst + i] = ws[f + i];
         i += 1;
-        x = e + 1;
     }
     n
+}
+
+// What f costs at level j.
+pub fn value_at(ws: &[u64], f: usize, j: u64, levels: u64, base: u64) -> u64
+    requires { ⌜ Held (now ws) f levels × (base + levels ≤ 262144) ⌝ }
+    requires { ⌜ j < levels ⌝ }
+    requires { ⌜ ((i : ℕ) → i < levels → Fine 1048576 18014398509481984 (piece (now ws) f levels i) (base + i)) ⌝ }
+    ensures { λ r. ⌜ r ≡ costs base (piece (now (ws .entry)) f levels) j ⌝ }
+{
+    least_in(ws, f, j, j, levels, base).value
+}
+
+// Whether f is one piece, none. (Equal neighbours are joined, so a list that is none everywhere is.)
+pub fn all_none(ws: &[u64], f: usize, levels: u64) -> bool
+    requires { ⌜ Held (now ws) f levels × ((0 < levels) × (levels ≤ 262144)) ⌝ }
+    ensures { λ r. ⌜ (r ≡ true → (j : ℕ) → j < levels → piece (now (ws .entry)) f levels j .c ≡ none) ⌝ }
+{
+    if ws[f] + 1 == levels {
+        if ws[f + 3] == quadratic::NONE {
+            return true;
+        }
+    }
+    false
 }
