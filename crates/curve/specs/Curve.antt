@@ -8,16 +8,16 @@ use Prim.Native.Nat.{ℕ, zero, suc, _+_, _*_, _-_, _≤_, _<_}
 use native.Mathlib.Nat.{mul-le-mul-right}
 use native.Mathlib.Numerals.{add-one}
 use native.Mathlib.Omega.{arith}
-use lib.Dec.{leb, ltb}
+use lib.Dec.{leb, ltb, eqb}
 use lib.ListN.{length, getD}
-use borrow.Author.Tests.{le-leb, lt-leb, lt-ltb, le-ltb}
+use borrow.Author.Tests.{le-leb, lt-leb, lt-ltb, le-ltb, eq-eqb}
 use Rattle.integers.specs.Rep.{le-or-lt}
 use Rattle.quadratic.specs.declared.Quad.{Quad}
 use Rattle.quadratic.specs.Quad.{up, down, value, none, flat, Small, Sized, Fine, pick, raised, pushed, moved, mirrored, better}
 use Rattle.quadratic.specs.Fine.{Bounds, far, plus, square-most, fine-sized, fine-none, fine-flat, fine-wider, fine-raised, value-raised, fine-pushed, value-pushed, fine-moved, value-moved, mirror-sum, mirror-rest, fine-mirrored, value-mirrored, value-better, fine-better, value-most, kinds}
 use Rattle.curve.specs.declared.Low.{Low}
-use Rattle.curve.specs.Pieces.{pickN, piece, Formed, Kept, Apart, Made, Held, Lent, Copied, shiftOf, mirrorOf, Turnable}
-use Rattle.curve.specs.Lists.{kept-formed, kept-piece, count-most, closed, copied-built}
+use Rattle.curve.specs.Pieces.{pickN, piece, Formed, Kept, Same, Apart, Made, Held, Lent, Copied, shiftOf, mirrorOf, Turnable}
+use Rattle.curve.specs.Lists.{same-built, kept-same, opened, count-most, closed, copied-built}
 use Rattle.curve.specs.Lows.{top, costs, Least, LeastIn, lowest, prefixOf, lowest-zero, lowest-new, lowest-old, lowest-among, prefix-new, prefix-old}
 
 -- a piece that costs x at v
@@ -40,11 +40,20 @@ bounds : {A B base L : ℕ} → Limits A B base L → (j : ℕ) → j < L → Bo
 bounds l j h = record { readings = l .readings; cost = l .cost; place = omega (arith, l .high) }
 
 -- ---- a list that is not written to
+pub curve-same : {A B base L : ℕ} {ws ws′ : List ℕ} {o : ℕ} {F : ℕ → ℕ} → length ws′ ≡ length ws → (c : Curve A B base L ws o F) → Same ws ws′ o (4 * c .held .formed .count) → Curve A B base L ws′ o F
+curve-same {A} {B} {base} {L} {ws} {ws′} {o} {F} e c s =
+    let b = same-built s (omega arith) (opened (c .held .formed)) in
+    record {
+      held = record { formed = record { count = c .held .formed .count; ends = b .ends; rising = b .rising }; room = omega (arith, c .held .room) };
+      at = λ j h. subst (λ (q : Quad). Costs A B (base + j) q (F j)) (sym (closed b j h)) (c .at j h);
+    }
+
 pub curve-kept : {A B base L : ℕ} {ws ws′ : List ℕ} {dst len o : ℕ} {F : ℕ → ℕ} → Kept ws ws′ dst len → (c : Curve A B base L ws o F) → (o + 4 * c .held .formed .count ≤ dst) ⊎ (dst + len ≤ o) → Curve A B base L ws′ o F
-curve-kept {A} {B} {base} {L} {ws} {ws′} {dst} {len} {o} {F} k c a = record {
-  held = record { formed = kept-formed k (c .held .formed) a; room = omega (arith, c .held .room, k .size) };
-  at = λ j h. subst (λ (q : Quad). Costs A B (base + j) q (F j)) (sym (kept-piece k (c .held .formed) a j h)) (c .at j h);
-}
+curve-kept k c a = curve-same (k .size) c (kept-same (4 * c .held .formed .count) k a)
+
+-- what a list costs, whatever its name
+pub curve-costs : {A B base L : ℕ} {ws : List ℕ} {o : ℕ} {F : ℕ → ℕ} → Curve A B base L ws o F → Curve A B base L ws o (costs base (piece ws o L))
+curve-costs c = record { held = c .held; at = λ j h. record { fine = c .at j h .fine; is = refl } }
 
 pub curve-as : {A B base L : ℕ} {ws : List ℕ} {o : ℕ} {F : ℕ → ℕ} (G : ℕ → ℕ) → ((j : ℕ) → j < L → F j ≡ G j) → Curve A B base L ws o F → Curve A B base L ws o G
 curve-as G e c = record { held = c .held; at = λ j h. record { fine = c .at j h .fine; is = c .at j h .is ∙ e j h } }
@@ -69,6 +78,23 @@ module _ {A B base L : ℕ} (l : Limits A B base L) {ws : List ℕ} {o : ℕ} {F
 
   pub curve-fine : (j : ℕ) → j < L → Fine 1048576 18014398509481984 (piece ws o L j) (base + j)
   curve-fine j h = fine-wider 1048576 18014398509481984 (l .readings) (l .cost) (c .at j h .fine)
+
+  -- each value is none, or less than B
+  pub curve-value : (j : ℕ) → j < L → (F j ≡ none) ⊎ (F j < B)
+  curve-value j h = ⊎-elim
+      (λ e. inl (sym (c .at j h .is) ∙ subst (λ (q : Quad). value q (base + j) ≡ none) (sym e) (omega arith)))
+      (λ e. inr (omega (arith, e .1, c .at j h .fine .whole, c .at j h .is)))
+      (kinds (bounds l j h) (c .at j h .fine))
+
+  pub curve-most : (j : ℕ) → j < L → F j ≤ none
+  curve-most j h = ⊎-elim (λ e. omega arith) (λ e. omega (arith, l .cost)) (curve-value j h)
+
+  -- a piece whose constant is none is none
+  pub curve-none : (j : ℕ) → j < L → piece ws o L j .c ≡ none → F j ≡ none
+  curve-none j h p = ⊎-elim
+      (λ e. sym (c .at j h .is) ∙ subst (λ (q : Quad). value q (base + j) ≡ none) (sym e) (omega arith))
+      (λ e. let z : eqb none none ≡ false = rw p at (e .0) in let y : _≡_ {A = ℕ} 0 1 = cc (eq-eqb none none refl) in absurd (omega arith))
+      (kinds (bounds l j h) (c .at j h .fine))
 
   pub curve-turnable : (j : ℕ) → j < L → Turnable (2 * base + (L - 1)) (piece ws o L j)
   curve-turnable j h =
