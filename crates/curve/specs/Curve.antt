@@ -69,6 +69,10 @@ curve-lent dst len c a = record { formed = c .held .formed; room = c .held .room
 pub near : {A B base L : ℕ} {ws : List ℕ} {o : ℕ} {F : ℕ → ℕ} (dst : ℕ) (c : Curve A B base L ws o F) → Apart o dst (4 * L) → (o + 4 * c .held .formed .count ≤ dst) ⊎ (dst + 4 * L ≤ o)
 near dst c = ⊎-elim (λ h. inl (omega (arith, count-most (c .held .formed)))) (λ h. inr h)
 
+-- it may be read while the full list at dst is written
+pub curve-reads : {A B base L : ℕ} {ws : List ℕ} {o : ℕ} {F : ℕ → ℕ} (dst : ℕ) → Curve A B base L ws o F → Apart o dst (4 * L) → Lent ws o dst (4 * L) L
+curve-reads {L = L} dst c a = curve-lent dst (4 * L) c (near dst c a)
+
 module _ {A B base L : ℕ} (l : Limits A B base L) {ws : List ℕ} {o : ℕ} {F : ℕ → ℕ} (c : Curve A B base L ws o F) where
   pub curve-sized : (j : ℕ) → j < L → Sized (piece ws o L j)
   curve-sized j h = fine-sized (bounds l j h) (c .at j h .fine)
