@@ -15,8 +15,8 @@ mirror-requires c κs =
     let l = s .pre .1 .0 in
     ((curve-reads (s .args .next) (s .pre .1 .1) (h .f-next), h .room-next), ((l .low, l .high), curve-turnable l (s .pre .1 .1)))
 
-prefix-least-requires : tie.Need-prefix-least-requires
-prefix-least-requires c κs =
+running-min-requires : tie.Need-running-min-requires
+running-min-requires c κs =
     let s = c .before .before .before .before .before .before in
     let h = s .pre .0 .0 in
     let l = s .pre .1 .0 in
@@ -30,7 +30,7 @@ shift-requires c κs =
     let h = s .pre .0 .0 in
     let l = s .pre .1 .0 in
     let m = c .before .before .before .before .before .before .before .mirror .ensures in
-    let n = c .before .before .before .prefix-least .ensures in
+    let n = c .before .before .before .running-min .ensures in
     let k = down2 h m n l (s .pre .1 .1) in
     ((curve-reads (s .args .next) k (apart-swap (s .args .next) (s .args .work) (4 * s .args .levels) (h .next-work)), omega (arith, h .room-next, m .kept .size, n .kept .size)), ((s .pre .0 .1, omega (arith, l .high)), curve-sized l k))
 
@@ -40,7 +40,7 @@ mirror-requires-2 c κs =
     let h = s .pre .0 .0 in
     let l = s .pre .1 .0 in
     let m = c .before .before .before .before .before .before .before .before .before .before .before .mirror .ensures in
-    let n = c .before .before .before .before .before .before .before .prefix-least .ensures in
+    let n = c .before .before .before .before .before .before .before .running-min .ensures in
     let o = c .before .before .before .shift .ensures in
     let k = down3 h m n (s .args .gap) o l (s .pre .1 .1) in
     ((curve-reads (s .args .work) k (h .next-work), omega (arith, h .room-work, m .kept .size, n .kept .size, o .kept .size)), ((l .low, l .high), curve-turnable l k))
@@ -51,14 +51,14 @@ same-length c = search needs
 returns : tie.Need-returns
 returns c =
     let s = c .before .before .before .before .before .before .before .before .before .before .before .before .before .before .before .before .before in
-    down-moved (s .pre .0 .0) (c .before .before .before .before .before .before .before .before .before .before .before .before .before .before .mirror .ensures) (c .before .before .before .before .before .before .before .before .before .before .prefix-least .ensures) (s .args .gap) (c .before .before .before .before .before .before .shift .ensures) (c .before .before .mirror2 .ensures)
+    down-moved (s .pre .0 .0) (c .before .before .before .before .before .before .before .before .before .before .before .before .before .before .mirror .ensures) (c .before .before .before .before .before .before .before .before .before .before .running-min .ensures) (s .args .gap) (c .before .before .before .before .before .before .shift .ensures) (c .before .before .mirror2 .ensures)
 
 pub down-into-spec : {M : Type 1} → statement M
 down-into-spec =
     tie.close
     (tie.spec
     mirror-requires
-    prefix-least-requires
+    running-min-requires
     shift-requires
     mirror-requires-2
     same-length

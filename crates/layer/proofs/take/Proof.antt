@@ -7,8 +7,8 @@ use Rattle.layer.proofs.Moves.{lower-limits, joined}
 use Rattle.layer.proofs.take.Statement.{statement}
 use Rattle.layer.proofs.take.Tie as tie
 
-least2-requires : tie.Need-least2-requires
-least2-requires c κs =
+least-of-two-requires : tie.Need-least-of-two-requires
+least-of-two-requires c κs =
     let s = c .before .before in
     let h = s .pre .0 .0 in
     let l = s .pre .1 .0 in
@@ -23,7 +23,7 @@ same-length : tie.Need-same-length
 same-length c = search needs
 
 returns : tie.Need-returns
-returns c = let s = c .before .before .before .before .before in joined {t = s .args .t} (s .pre .0 .0) (c .before .before .least2 .ensures)
+returns c = let s = c .before .before .before .before .before in joined {t = s .args .t} (s .pre .0 .0) (c .before .before .least-of-two .ensures)
 
 pub take-spec : {M : Type 1} → statement M
-take-spec = tie.close (tie.spec least2-requires same-length returns)
+take-spec = tie.close (tie.spec least-of-two-requires same-length returns)

@@ -1,10 +1,10 @@
--- `quadratic::turned`: each part is bounded. Assumes nothing.
+-- `quadratic::mirror`: each part is bounded. Assumes nothing.
 use Prim.Native.Nat.{_*_, _≤_}
 use native.Mathlib.Omega.{arith}
 use borrow.Author.Needs.{needs}
 use Rattle.quadratic.proofs.Laws.{prod≤}
-use Rattle.quadratic.proofs.turned.Statement.{statement}
-use Rattle.quadratic.proofs.turned.Tie as tie
+use Rattle.quadratic.proofs.mirror.Statement.{statement}
+use Rattle.quadratic.proofs.mirror.Tie as tie
 
 bound : (s : tie.Start) → (s .args .q .a * s .args .s ≤ 1048576 * 524287) × ((s .args .s * s .args .s ≤ 524287 * 524287) × ((s .args .q .a * (s .args .s * s .args .s) ≤ 1048576 * (524287 * 524287)) × (s .args .q .z * s .args .s ≤ 549755813888 * 524287)))
 bound s =
@@ -40,5 +40,5 @@ sub-t10 c = omega (arith, bound (c .before .before .before .before .before))
 returns : tie.Need-returns
 returns c = search needs
 
-pub turned-spec : {M : Type 1} → statement M
-turned-spec = tie.close (tie.spec mul-t3 sub-t4 mul-t5 mul-t6 add-t7 mul-t8 mul-t9 sub-t10 returns)
+pub mirror-spec : {M : Type 1} → statement M
+mirror-spec = tie.close (tie.spec mul-t3 sub-t4 mul-t5 mul-t6 add-t7 mul-t8 mul-t9 sub-t10 returns)

@@ -1,8 +1,8 @@
--- `quadratic::turn`: the quotient's bounds are the slope's signs. Assumes nothing.
+-- `quadratic::turning_point`: the quotient's bounds are the slope's signs. Assumes nothing.
 use native.Mathlib.Omega.{arith}
 use borrow.Author.Needs.{needs}
-use Rattle.quadratic.proofs.turn.Statement.{statement}
-use Rattle.quadratic.proofs.turn.Tie as tie
+use Rattle.quadratic.proofs.turning_point.Statement.{statement}
+use Rattle.quadratic.proofs.turning_point.Tie as tie
 
 mul-cut : tie.Need-mul-cut
 mul-cut c = search needs
@@ -25,5 +25,5 @@ cut-requires c κs = search needs
 returns : tie.Need-returns
 returns c = let s = c .before in record { low = c .cut .ensures .low; high = c .cut .ensures .high; falls = λ m g h. omega (arith, c .cut .ensures .under m g h); rises = λ m g h. omega (arith, c .cut .ensures .over m g h) }
 
-pub turn-spec : {M : Type 1} → statement M
-turn-spec = tie.close (tie.spec mul-cut add-cut sub-cut mul-cut-2 mul-cut-3 cut-requires returns)
+pub turning-point-spec : {M : Type 1} → statement M
+turning-point-spec = tie.close (tie.spec mul-cut add-cut sub-cut mul-cut-2 mul-cut-3 cut-requires returns)

@@ -1,4 +1,4 @@
--- `curve::prefix_least`: the least so far, piece by piece. Assumes nothing.
+-- `curve::running_min`: the least so far, piece by piece. Assumes nothing.
 use mathlib.Core.Logic.{inl}
 use mathlib.Core.Path.{_≡_, refl, sym, _∙_, subst}
 use Prim.Native.Nat.{ℕ, _+_, _-_, _≤_}
@@ -9,8 +9,8 @@ use Rattle.curve.specs.Lists.{emits-none, emits-then, made}
 use Rattle.curve.specs.Lows.{costs, lowest, prefixOf, lowest-zero, lowest-most}
 use Rattle.curve.specs.Pieces.{Emits, piece, endOf}
 use Rattle.curve.proofs.Laws.{At, Seen, seen, at-start}
-use Rattle.curve.proofs.prefix_least.Statement.{statement}
-use Rattle.curve.proofs.prefix_least.Tie as tie
+use Rattle.curve.proofs.running_min.Statement.{statement}
+use Rattle.curve.proofs.running_min.Tie as tie
 
 abbrev Inv-loop : tie.InvT-loop
 Inv-loop ws₀ f dst levels base run₀ i₀ x₀ ws run i x = ((x ≤ levels) × (At ws₀ f levels i x × (lowest (costs base (piece ws₀ f levels)) x ≡ run .best))) × Emits (prefixOf base (piece ws₀ f levels)) ws₀ ws dst 0 0 x (run .n)
@@ -42,8 +42,8 @@ slice-read-e c = omega (arith, sf (c .before) .room)
 load-requires : tie.Need-load-requires Inv-loop μ-loop
 load-requires c κs = sf (c .before .before) .room
 
-prefix-on-requires : tie.Need-prefix-on-requires Inv-loop μ-loop
-prefix-on-requires c κs = let t = c .before .before .before .before in let s = c .before .before .before .before .before .before .before in let i = c .before .before .before .before .before .loop .inv in
+running-min-on-requires : tie.Need-running-min-on-requires Inv-loop μ-loop
+running-min-on-requires c κs = let t = c .before .before .before .before in let s = c .before .before .before .before .before .before .before in let i = c .before .before .before .before .before .loop .inv in
     let e : (j : ℕ) → c .before .before .before .before .before .loop .x ≤ j → j ≤ endOf (c .before .before .before .before .before .loop .ws) (s .args .f) (c .before .before .before .before .before .loop .i) → piece (s .args .ws .now) (s .args .f) (s .args .levels) j ≡ c .before .load .result = λ j p q. sf t .is j p q ∙ sym (c .before .load .ensures) in (
       (
         subst Small (e (c .before .before .before .before .before .loop .x) (omega arith) (sf t .from)) (s .pre .1 .1 (c .before .before .before .before .before .loop .x) (t .loop-test .taken) .0),
@@ -68,7 +68,7 @@ loop-less c = omega (arith, sf (c .before .before .before .before .before .befor
 
 loop-again : tie.Need-loop-again Inv-loop μ-loop
 loop-again c = let t = c .before .before .before .before .before .before .before in let s = c .before .before .before .before .before .before .before .before .before .before in let i = c .before .before .before .before .before .before .before .before .loop .inv in
-    let o = c .before .before .prefix-on .ensures .on (piece (s .args .ws .now) (s .args .f) (s .args .levels)) (λ j p q. sf t .is j p q ∙ sym (c .before .before .before .before .load .ensures)) (i .0 .1 .1) in
+    let o = c .before .before .running-min-on .ensures .on (piece (s .args .ws .now) (s .args .f) (s .args .levels)) (λ j p q. sf t .is j p q ∙ sym (c .before .before .before .before .load .ensures)) (i .0 .1 .1) in
     ((omega (arith, sf t .to), (sf t .step _ _ (sf t .from) (omega arith) (inl (refl, refl)), o .1)), emits-then (omega arith) (omega (arith, sf t .from)) (i .1) (o .0))
 
 same-length : tie.Need-same-length Inv-loop μ-loop
@@ -77,8 +77,8 @@ same-length c = c .before .loop .inv .1 .kept .size
 returns : tie.Need-returns Inv-loop μ-loop
 returns c = let s = c .before .before .before in let e : c .before .loop .x ≡ s .args .levels = omega arith in made (rw e at (c .before .loop .inv .1))
 
-pub prefix-least-spec : {M : Type 1} → statement M
-prefix-least-spec =
+pub running-min-spec : {M : Type 1} → statement M
+running-min-spec =
     tie.close
     (tie.spec
     Inv-loop
@@ -90,7 +90,7 @@ prefix-least-spec =
     mul-e
     slice-read-e
     load-requires
-    prefix-on-requires
+    running-min-on-requires
     add-i
     add-x
     loop-less

@@ -1,10 +1,10 @@
--- `quadratic::shifted`: each part is bounded. Assumes nothing.
+-- `quadratic::shift`: each part is bounded. Assumes nothing.
 use Prim.Native.Nat.{_*_, _≤_}
 use native.Mathlib.Omega.{arith}
 use borrow.Author.Needs.{needs}
 use Rattle.quadratic.proofs.Laws.{prod≤}
-use Rattle.quadratic.proofs.shifted.Statement.{statement}
-use Rattle.quadratic.proofs.shifted.Tie as tie
+use Rattle.quadratic.proofs.shift.Statement.{statement}
+use Rattle.quadratic.proofs.shift.Tie as tie
 
 bound : (s : tie.Start) → (s .args .q .a * s .args .g ≤ 1048576 * 1023) × ((s .args .g * s .args .g ≤ 1023 * 1023) × ((s .args .q .a * (s .args .g * s .args .g) ≤ 1048576 * (1023 * 1023)) × (s .args .q .z * s .args .g ≤ 549755813888 * 1023)))
 bound s =
@@ -40,6 +40,6 @@ add-t10 c = omega (arith, bound (c .before .before .before .before .before))
 returns : tie.Need-returns
 returns c = search needs
 
-pub shifted-spec : {M : Type 1} → statement M
-shifted-spec =
+pub shift-spec : {M : Type 1} → statement M
+shift-spec =
     tie.close (tie.spec mul-t3 add-t4 mul-t5 mul-t6 mul-t7 mul-t8 add-t9 add-t10 returns)

@@ -1,11 +1,11 @@
--- `quadratic::push`: the products are bounded. Assumes nothing.
+-- `quadratic::add_square`: the products are bounded. Assumes nothing.
 use Prim.Native.Nat.{_*_, _≤_}
 use native.Mathlib.Omega.{arith}
 use borrow.Author.Needs.{needs}
 use borrow.Author.Tests.{eq-eqb, ne-eqb}
 use Rattle.quadratic.proofs.Laws.{prod≤}
-use Rattle.quadratic.proofs.push.Statement.{statement}
-use Rattle.quadratic.proofs.push.Tie as tie
+use Rattle.quadratic.proofs.add_square.Statement.{statement}
+use Rattle.quadratic.proofs.add_square.Tie as tie
 
 bound : (s : tie.Start) → (s .args .u * s .args .u ≤ 262143 * 262143) × ((s .args .w * s .args .u ≤ 255 * 262143) × (s .args .w * (s .args .u * s .args .u) ≤ 255 * (262143 * 262143)))
 bound s =
@@ -38,5 +38,5 @@ returns c = simp (eq-eqb _ _ (c .if1 .taken))
 returns-2 : tie.Need-returns-2
 returns-2 c = simp (ne-eqb _ _ (c .before .before .before .if1 .left))
 
-pub push-spec : {M : Type 1} → statement M
-push-spec = tie.close (tie.spec add-t6 mul-t7 add-t8 mul-t9 mul-t10 add-t11 returns returns-2)
+pub add-square-spec : {M : Type 1} → statement M
+add-square-spec = tie.close (tie.spec add-t6 mul-t7 add-t8 mul-t9 mul-t10 add-t11 returns returns-2)

@@ -1,4 +1,4 @@
--- `curve::least2`: each turn is an overlap of two pieces. Assumes nothing.
+-- `curve::least_of_two`: each turn is an overlap of two pieces. Assumes nothing.
 use mathlib.Core.Logic.{_⊎_, ⊎-elim}
 use mathlib.Core.Path.{subst, _≡_, sym, _∙_}
 use Prim.Native.Nat.{ℕ, _+_, _-_, _≤_, _<_}
@@ -8,8 +8,8 @@ use Rattle.quadratic.specs.declared.Quad.{Quad}
 use Rattle.curve.specs.Lists.{emits-none, emits-then, emits-as, made}
 use Rattle.curve.specs.Pieces.{endOf, Emits, piece}
 use Rattle.curve.proofs.Laws.{Seen, seen, raised-same, better-same, small-raised, At, at-start}
-use Rattle.curve.proofs.least2.Statement.{statement}
-use Rattle.curve.proofs.least2.Tie as tie
+use Rattle.curve.proofs.least_of_two.Statement.{statement}
+use Rattle.curve.proofs.least_of_two.Tie as tie
 
 abbrev Inv-loop : tie.InvT-loop
 Inv-loop ws₀ f g pen dst levels base i₀ k₀ n₀ x₀ ws i k n x = ((x ≤ levels) × (At ws₀ f levels i x × At ws₀ g levels k x)) × Emits (λ (j : ℕ). better (base + j) (piece ws₀ f levels j) (raised pen (piece ws₀ g levels j))) ws₀ ws dst 0 0 x n
@@ -117,8 +117,8 @@ same-length c = c .before .loop .inv .1 .kept .size
 returns : tie.Need-returns Inv-loop μ-loop
 returns c = let s = c .before .before .before in let e : c .before .loop .x ≡ s .args .levels = omega arith in made (rw e at (c .before .loop .inv .1))
 
-pub least2-spec : {M : Type 1} → statement M
-least2-spec =
+pub least-of-two-spec : {M : Type 1} → statement M
+least-of-two-spec =
     tie.close
     (tie.spec
     Inv-loop

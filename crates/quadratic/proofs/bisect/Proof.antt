@@ -1,11 +1,11 @@
--- `quadratic::halve`: b is under and e is over, and they close in. Assumes nothing.
+-- `quadratic::bisect`: b is under and e is over, and they close in. Assumes nothing.
 use mathlib.Core.Path.{sym, _∙_, subst, _≡_}
 use Prim.Native.Nat.{_+_, _-_, _≤_, _<_}
 use native.Mathlib.Omega.{arith}
 use borrow.Author.Tests.{leb-true, leb-false}
 use Rattle.quadratic.specs.Quad.{Under, Over}
-use Rattle.quadratic.proofs.halve.Statement.{statement}
-use Rattle.quadratic.proofs.halve.Tie as tie
+use Rattle.quadratic.proofs.bisect.Statement.{statement}
+use Rattle.quadratic.proofs.bisect.Tie as tie
 
 abbrev Inv-loop : tie.InvT-loop
 Inv-loop w l lo hi b₀ e₀ b e = ((lo ≤ b) × (b < e)) × ((e ≤ hi) × (Under w l b × Over w l e))
@@ -50,5 +50,5 @@ returns c =
     let next : c .before .loop .e ≡ c .before .loop .b + 1 = omega arith in
     record { low = i .0 .0; high = omega arith; under = i .1 .1 .0; last = subst (Over (c .before .before .args .w) (c .before .before .args .l)) next (i .1 .1 .1) }
 
-pub halve-spec : {M : Type 1} → statement M
-halve-spec = tie.close (tie.spec Inv-loop μ-loop loop-holds sub-loop sub-m add-m under-requires loop-less loop-again loop-less-2 loop-again-2 returns)
+pub bisect-spec : {M : Type 1} → statement M
+bisect-spec = tie.close (tie.spec Inv-loop μ-loop loop-holds sub-loop sub-m add-m under-requires loop-less loop-again loop-less-2 loop-again-2 returns)
