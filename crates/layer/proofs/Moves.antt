@@ -9,18 +9,19 @@ use lib.Dec.{leb, ltb}
 use lib.ListN.{length}
 use borrow.Author.Tests.{le-leb, lt-leb, lt-ltb, le-ltb}
 use Rattle.integers.specs.Rep.{le-or-lt}
-use Rattle.quadratic.specs.Quad.{better, raised, flat, none}
+use Rattle.quadratic.specs.Quad.{better, raised, pushed, flat, none}
+use Rattle.quadratic.specs.Fine.{far}
 use Rattle.curve.specs.declared.Low.{Low}
 use Rattle.curve.specs.Pieces.{pickN, piece, Kept, Made, shiftOf, mirrorOf}
 use Rattle.curve.specs.Lows.{lowest, prefixOf, costs, LeastIn, Least}
-use Rattle.curve.specs.Curve.{Curve, Limits, curve-as, curve-prefix, curve-shift, curve-mirror, curve-least, curve-flat, curve-wider, curve-costs, curve-none, curve-most, curve-value, curve-least-in}
+use Rattle.curve.specs.Curve.{Curve, Limits, curve-as, curve-prefix, curve-shift, curve-mirror, curve-least, curve-loss, curve-flat, curve-wider, curve-costs, curve-none, curve-most, curve-value, curve-least-in}
 use Rattle.plan.specs.declared.Kind.{Kind}
 use Rattle.plan.specs.declared.Kind.the-variants.{Stay, Any, Up, Down, Abs}
 use Rattle.plan.specs.Build.{gapOf}
 use Rattle.model.specs.Index.{noCost, prefixMin, suffixMin, upMin, downMin, edgeMin, edge-min, edge-min-none, prefix-met, prefix-least}
 use Rattle.model.specs.Held.{raise}
 use Rattle.layer.specs.declared.Temps.{Temps}
-use Rattle.layer.specs.Edge.{Into, Joint, Hand, Sound, Ready, Spared, Moved, Joined, Taken, anyMin, swapped, kept-off, spared-refl, spared-then, spared-curve, spared-order, apart-swap, hand-order, order-then, min-regroup, raise-min, raise-none, less-min, plus-raise, lowest-prefix}
+use Rattle.layer.specs.Edge.{Into, Joint, Hand, Sound, Ready, Spared, Moved, Joined, Taken, WithLoss, anyMin, swapped, kept-off, spared-refl, spared-then, spared-curve, spared-order, apart-swap, hand-order, order-then, min-regroup, raise-min, raise-none, less-min, plus-raise, lowest-prefix}
 
 pub lower-limits : {A B base L : ℕ} (C : ℕ) → C ≤ B → Limits A B base L → Limits A C base L
 lower-limits C h l = record { readings = l .readings; cost = omega (arith, l .cost); low = l .low; high = l .high }
@@ -234,3 +235,10 @@ gap-down k g e h = omega (arith, rw e at h)
 
 pub gap-abs : (k : Kind) (g : ℕ) → k ≡ Abs g → gapOf k ≤ 1023 → g < 1024
 gap-abs k g e h = omega (arith, rw e at h)
+
+-- ---- the loss of a reading
+pub with-loss : {w u base L f dst : ℕ} {ws ws′ : List ℕ} → 131072 ≤ base → base + L ≤ 196608 → (131072 ≤ u) × (u < 196608) → dst + 4 * L ≤ length ws → Made (λ (j : ℕ). pushed w u (piece ws f L j)) ws ws′ dst L → WithLoss w u base L ws ws′ f dst
+with-loss {w} {u} {base} h g p r m = record {
+  kept = m .kept;
+  curve = λ A B F l c. curve-as (λ (j : ℕ). raise (F j) (w * (far u (base + j) * far u (base + j)))) (λ j i. plus-raise (w * (far u (base + j) * far u (base + j))) (F j) (curve-most l c j i)) (curve-loss w u (λ j i. omega arith) l c r m);
+}

@@ -10,15 +10,17 @@ use native.Mathlib.Numerals.{add-one}
 use lib.Dec.{leb, ltb, eqb}
 use lib.ListN.{length, getD}
 use borrow.Author.Tests.{le-leb, lt-leb, lt-ltb, le-ltb, eq-eqb, ne-eqb}
-use Rattle.integers.specs.Rep.{le-or-lt}
+use lib.IntN.{ℤ, pos, _+ℤ_}
+use Rattle.integers.specs.Rep.{le-or-lt, iz, nz, _⊕_, eqN, eqZ}
 use Rattle.quadratic.specs.Quad.{none}
-use Rattle.quadratic.specs.Fine.{plus}
+use Rattle.quadratic.specs.Fine.{plus, far, far-signed, square-most}
 use Rattle.curve.specs.Pieces.{pickN, piece, Kept, Same, Apart}
 use Rattle.curve.specs.Lists.{kept-same, count-most}
 use Rattle.curve.specs.Lows.{costs, lowest, top, lowest-zero, lowest-new, lowest-old}
 use Rattle.curve.specs.Curve.{Curve, Limits, less, curve-same, curve-costs, curve-wider}
 use Rattle.model.specs.Index.{noCost, prefixMin, suffixMin, upMin, downMin, edgeMin}
 use Rattle.model.specs.Held.{raise}
+use Rattle.model.specs.Model.{square, lossAt}
 use Rattle.layer.specs.declared.Temps.{Temps}
 
 -- what an edge of kind any makes of a list
@@ -98,6 +100,11 @@ pub record Taken (E : (ℕ → ℕ) → ℕ → ℕ) (pen base L : ℕ) (ws ws�
   pub order : Order t r
   pub spared : Spared (t .acc) (t .next) (t .work) L ws ws′
   pub curve : (A B C : ℕ) (F G : ℕ → ℕ) → Limits A B base L → C + pen ≤ B → Curve A B base L ws (t .acc) F → Curve A C base L ws f G → Curve A B base L ws′ (r .acc) (λ (j : ℕ). min (F j) (raise (E G j) pen))
+
+-- dst is the list at f with w times the square of the distance from u
+pub record WithLoss (w u base L : ℕ) (ws ws′ : List ℕ) (f dst : ℕ) : Type 0 where
+  pub kept : Kept ws ws′ dst (4 * L)
+  pub curve : (A B : ℕ) (F : ℕ → ℕ) → Limits A B base L → Curve A B base L ws f F → Curve (A + w) (B + w * square-most) base L ws′ dst (λ (j : ℕ). raise (F j) (w * (far u (base + j) * far u (base + j))))
 
 -- ---- laws of what is spared
 pub spared-refl : (a b c L : ℕ) (ws : List ℕ) → Spared a b c L ws ws
@@ -201,3 +208,11 @@ raise-min x y k f g = ⊎-elim
     (λ i. rw (raise-some x k h, raise-some y k i) (omega (arith, raise-some (min x y) k (omega arith))))
     (le-or-lt none y))
     (le-or-lt none x)
+
+-- ---- the loss of a reading: its place is u, and that of the lowest level is base
+module _ (zs : List ℤ) (t : ℕ) (lo : ℤ) (u base : ℕ) (at : pos u ≡ getD zs t (pos 0) +ℤ pos 163840) (from : pos base ≡ lo +ℤ pos 163840) where
+  pub loss-place : (j : ℕ) → far u (base + j) * far u (base + j) ≡ lossAt zs t (lo +ℤ pos j)
+  unfolding lossAt square
+  loss-place j =
+      let e = far-signed (getD zs t (pos 0)) (lo +ℤ pos j) u (base + j) at (eqZ (nz (base + j)) (iz lo ⊕ nz j ⊕ nz 163840) (omega (arith, eqN (nz base) (iz lo ⊕ nz 163840) from))) in
+      rw e
