@@ -56,7 +56,7 @@ pub fn cut(p: u64, q: u64, d: u64, x: u64, y: u64) -> u64
 }
 
 // Where the slope turns, clamped.
-pub fn turn(e: u64, f: u64, g: u64, x: u64, y: u64) -> u64
+pub fn turning_point(e: u64, f: u64, g: u64, x: u64, y: u64) -> u64
     requires { ⌜ ((0 < e) × (e ≤ 1048576)) × ((f ≤ 549755813888) × (g ≤ 549755813888)) ⌝ }
     requires { ⌜ (x ≤ y) × (y < 262144) ⌝ }
     ensures { λ r. ⌜ Turns e f g x y r ⌝ }
@@ -75,11 +75,11 @@ pub fn lowest_min(q: Quad, x: u64, y: u64) -> u64
         }
         return y;
     }
-    turn(q.a, q.z, 0, x, y)
+    turning_point(q.a, q.z, 0, x, y)
 }
 
 // The last level under, where lo is under and hi is over.
-pub fn halve(w: Quad, l: Quad, lo: u64, hi: u64) -> u64
+pub fn bisect(w: Quad, l: Quad, lo: u64, hi: u64) -> u64
     requires { ⌜ (Small w × Small l) × ((lo < hi) × (hi < 262144)) ⌝ }
     requires { ⌜ Under w l lo × Over w l hi ⌝ }
     ensures { λ r. ⌜ Halved w l lo hi r ⌝ }
@@ -110,16 +110,16 @@ pub fn crossing(w: Quad, l: Quad, x: u64, y: u64) -> u64
         return cut(l.c, w.c, 2 * (l.z - w.z), x, y);
     }
     if w.a < l.a {
-        let k = turn(l.a - w.a, l.z, w.z, x, y);
+        let k = turning_point(l.a - w.a, l.z, w.z, x, y);
         if under(w, l, k) {
             return y;
         }
-        return halve(w, l, x, k);
+        return bisect(w, l, x, k);
     }
     if under(w, l, y) {
         return y;
     }
-    halve(w, l, x, y)
+    bisect(w, l, x, y)
 }
 
 // q with k more at every level; none stays none.
@@ -138,24 +138,24 @@ pub fn raise(q: Quad, k: u64) -> Quad
     }
 }
 
-// q with the square (u - v)² more: one reading more; none stays none.
-pub fn push(q: Quad, u: u64) -> Quad
-    requires { ⌜ Small q × (u < 262144) ⌝ }
-    ensures { λ r. ⌜ r ≡ pushed u q ⌝ }
+// q with w times the square (u - v)² more: one reading of weight w more; none stays none.
+pub fn add_square(q: Quad, u: u64, w: u64) -> Quad
+    requires { ⌜ Small q × ((u < 262144) × (w < 256)) ⌝ }
+    ensures { λ r. ⌜ r ≡ pushed w u q ⌝ }
 {
     if q.c == NONE {
         q
     } else {
         Quad {
-            a: q.a + 1,
-            z: q.z + u,
-            c: q.c + u * u,
+            a: q.a + w,
+            z: q.z + w * u,
+            c: q.c + w * (u * u),
         }
     }
 }
 
 // q with every level moved up by g.
-pub fn shifted(q: Quad, g: u64) -> Quad
+pub fn shift(q: Quad, g: u64) -> Quad
     requires { ⌜ Small q × (g < 1024) ⌝ }
     ensures { λ r. ⌜ r ≡ moved g q ⌝ }
 {
@@ -167,7 +167,7 @@ pub fn shifted(q: Quad, g: u64) -> Quad
 }
 
 // q with each level v at the place of s - v.
-pub fn turned(q: Quad, s: u64) -> Quad
+pub fn mirror(q: Quad, s: u64) -> Quad
     requires { ⌜ Small q × (s < 524288) ⌝ }
     requires { ⌜ (q .z ≤ q .a * s) × (2 * (q .z * s) ≤ q .a * (s * s) + q .c) ⌝ }
     ensures { λ r. ⌜ r ≡ mirrored s q ⌝ }
