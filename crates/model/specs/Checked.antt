@@ -1,4 +1,5 @@
--- What the plan check guarantees of a plan. Assumes nothing.
+-- What the plan check (`planNumber P ≡ 0`), and a search or a point that no earlier number refuses, ensure: the proofs of the model rest on
+-- these facts alone, and none is assumed. Assumes nothing.
 use mathlib.Core.Path.{_≡_, refl, sym}
 use mathlib.Core.Bool.{Bool, true, false}
 use mathlib.Core.Logic.{_⊎_, inl, inr}
@@ -22,17 +23,21 @@ use Rattle.plan.specs.declared.EdgeRead.{EdgeRead}
 use Rattle.plan.specs.declared.EdgeRead.the-variants.{Is, Not}
 use Rattle.plan.specs.declared.EdgeStep.the-variants.{RefuseEdge}
 use Rattle.plan.specs.Build.{pick, anyBelow, firstBelow, kindNumber, gapOf, kindOf, kindAt, withKind, edgeOf, hasEdge, noEdge, noLabel, readEdge, freshEdge, edgeStep, edgeStepNumber, entryNumber, edgesNumber, labelNumber, labelsNumber, gridOk, maskOk, statesOk, openNumber, orElse, planNumber}
-use Rattle.model.specs.Grid.{above, above-add, no-way}
-use Rattle.model.specs.Model.{edgeAt, labelAt, inSet, onGrid, need}
-use Rattle.model.specs.Labels.{LabelsInOrder}
-use Rattle.model.specs.Opt.{width, counts}
-use Rattle.model.specs.Answer.{Fit}
+use Rattle.model.specs.Model.{edgeAt, labelAt, above, width, inSet, onGrid}
+use Rattle.model.specs.Bools.{no-way}
+use Rattle.model.specs.Grid.{above-add}
+unfoldable pub use Rattle.model.specs.Refusals.{countOk, late, searchNumber, pointNumber}
 
 pub record GoodEdge (P : Plan) (e : ℕ) : Type 0 where
   pub from-below : edgeAt P e .from < P .states
   pub to-below : edgeAt P e .to < P .states
   pub class-low : edgeAt P e .class ≤ 15
   pub gap-low : gapOf (edgeAt P e .kind) ≤ 1023
+
+pub record LabelsInOrder (P : Plan) : Type 0 where
+  pub positive : (i : ℕ) → i < P .labelcount → 1 ≤ labelAt P i .p
+  pub proper : (i : ℕ) → i < P .labelcount → labelAt P i .p < labelAt P i .q
+  pub apart : (i j : ℕ) → i < j → j < P .labelcount → labelAt P i .q ≤ labelAt P j .p
 
 pub record Checked (P : Plan) : Type 0 where
   pub grid : leZ (P .lo) (P .hi) ≡ true
@@ -246,20 +251,7 @@ module _ (P : Plan) (h : planNumber P ≡ 0) where
         small = λ i k. label-good (P .labels) i (labelAt P i) (label i k) .4;
       }
 
--- ---- the refusals of a search and of a cost at a point before they look at what is lent: 0 where none applies
-
-unfoldable pub countOk : ℕ → Bool
-countOk n = pick (eqb n 0) false (leb n 4096)
-
--- a label's q is above n
-unfoldable pub late : Plan → ℕ → Bool
-late P n = anyBelow (λ i. ltb n (labelAt P i .q)) (P .labelcount)
-
-unfoldable pub searchNumber : Plan → ℕ → ℕ
-searchNumber P n = orElse (planNumber P) (pick (P .sealed) (pick (countOk n) (pick (late P n) 13 0) 9) 11)
-
-unfoldable pub pointNumber : Plan → ℕ → ℕ → ℤ → ℕ
-pointNumber P n s m = orElse (planNumber P) (pick (P .sealed) (pick (countOk n) (pick (ltb s (P .states)) (pick (onGrid P m) 0 4) 5) 9) 11)
+-- ---- a search or a point that no number refuses
 
 pub record Accepted (P : Plan) (n : ℕ) : Type 0 where
   pub plan : Checked P
@@ -292,6 +284,14 @@ count-ok n h =
     let (a, b) = yes-if (eqb n 0) (leb n 4096) h in
     let z : n ≡ 0 → ⊥ = eqb-false n 0 a in
     (omega (arith, z), leb-true n 4096 b)
+
+pub built-search : (P : Plan) (n : ℕ) → searchNumber P n ≡ 0 → planNumber P ≡ 0
+unfolding searchNumber
+built-search P n h = or-zero (planNumber P) _ h .0
+
+pub built-point : (P : Plan) (n s : ℕ) (m : ℤ) → pointNumber P n s m ≡ 0 → planNumber P ≡ 0
+unfolding pointNumber
+built-point P n s m h = or-zero (planNumber P) _ h .0
 
 pub accepted : (P : Plan) (n : ℕ) → searchNumber P n ≡ 0 → Accepted P n
 unfolding searchNumber late
@@ -373,11 +373,3 @@ point-low P n s m =
     pick-low (eqb (planNumber P) 0) _ (planNumber P) 12
     (pick-low (P .sealed) _ 11 12 (pick-low (countOk n) _ 9 12 (pick-low (ltb s (P .states)) _ 5 12 (pick-low (onGrid P m) 0 4 12 (omega arith) (omega arith)) (omega arith)) (omega arith)) (omega arith))
     (plan-low P)
-
--- what the theorems of `Answer` and `Opt` ask
-pub fit : (P : Plan) (zs : List ℤ) → Accepted P (length zs) → Fit P zs
-fit P zs a = record { labels = a .plan .labels; ends = a .plan .ends; closed = a .closed; record′ = a .some-readings }
-
-pub need-low : (P : Plan) → Checked P → (i : ℕ) → i < P .labelcount → need (labelAt P i) < counts
-unfolding need
-need-low P c i h = omega (arith, c .small i h)

@@ -15,17 +15,20 @@ use Rattle.integers.specs.Rep as R
 use Rattle.integers.specs.Rep.{iz, _⊖_, leN, holds}
 use Rattle.plan.specs.declared.Plan.{Plan}
 use Rattle.model.specs.Cost.{Cost, value, nothing}
-use Rattle.model.specs.Layers.{readings}
-use Rattle.model.specs.Grid.{and-yes}
+use Rattle.model.specs.Bools.{and-yes}
 use Rattle.model.specs.Least.{leastBelow, given, firstHit, first-hit-is, Upto}
-use Rattle.model.specs.Model.{edgeAt, penalty, inSet, onGrid, lossAt, square}
+use Rattle.model.specs.Model.{edgeAt, width, penalty, inSet, onGrid, lossAt, square}
 use Rattle.model.specs.Checked.{Checked, searchNumber, pointNumber, accepted, accepted-point}
-use Rattle.model.specs.Result.{whole, point, found, refused, foundSeg, foundCost, unless-none, resultOf, searched, searched-right}
+use Rattle.model.specs.Result.{whole, point, found, refused, foundSeg, foundCost, resultOf}
+use Rattle.model.specs.Demand3.{unless-none}
+use Rattle.model.specs.Agree.{searched, searched-right}
 use Rattle.model.specs.Edges.{fromCount}
-use Rattle.model.specs.Search.{Node, node}
-use Rattle.model.specs.Opt.{opt, width, counts, offer, before, pointBest, pointCost}
+use Rattle.model.specs.Nodes.{Node, node}
+use Rattle.model.specs.Labels.{counts}
+use Rattle.model.specs.Opt.{opt, offer, before, pointBest, pointCost}
 use Rattle.model.specs.Answer.{endCost, leastEnd, answer, trace, trace-right}
-use Rattle.model.specs.Runs.{run, joins, wayBack, walkBack, walk-step, walk-runs, runs, runs-from, backFrom, runNumbers, numbers}
+use Rattle.model.specs.Run.{run, joins, runs, runNumbers, numbers}
+use Rattle.model.specs.Runs.{wayBack, walkBack, walk-step, walk-runs, runs-from, backFrom}
 use Rattle.model.specs.Index.{noCost, held, held-some, some-held, none-held, edgeMin, Permitted, permitted-yes, yes-permitted}
 use Rattle.model.specs.Held.{penaltyMost, Table, Holding, minBelow, held-least, held-given, least-ext, leadsAt, leads-count, step-back, firstTable, nextTable, first-holding, next-holding}
 
