@@ -20,25 +20,13 @@ use Rattle.plan.specs.Build.{planNumber}
 use Rattle.model.specs.Segmentation.{Seg, first, next, readings, lastLevel, Lower, readings-pos}
 use Rattle.model.specs.Model.{edgeAt, labelAt, above, width, permits, inSet, onGrid, lastState, Follows, cost, need, changes, HoldsAt, KeepsLabels, Allowed, AllowedWhole, LeastCost, order, First}
 use Rattle.model.specs.Listed.{each, eachOf, everySeg, followsTest, holdsTest, allBelow, allowedTest, wholeTest, pointTest, keep, lowerTest, key, earlier, firstIn, listed, lowest, leastIn, listedCost}
+use Rattle.model.specs.Lists.{In, in-left, in-right}
 use Rattle.model.specs.Bools.{no-way, and-yes, yes-and}
 use Rattle.model.specs.Grid.{grid-index, leZ-true, leZ-both}
 use Rattle.model.specs.Order.{lower-yes, lower-no, lower-trans, back-length, order-one}
 use Rattle.model.specs.Checked.{checked}
 
--- ---- what a list has
-
-abbrev pub In : {A : Type 0} → A → List A → Type 0
-In x [] = ⊥
-In x (y ∷ ys) = (x ≡ y) ⊎ In x ys
-
-in-left : {A : Type 0} (x : A) (xs ys : List A) → In x xs → In x (xs ++ ys)
-in-left x [] ys h = absurd h
-in-left x (z ∷ xs) ys (inl e) = inl e
-in-left x (z ∷ xs) ys (inr h) = inr (in-left x xs ys h)
-
-in-right : {A : Type 0} (x : A) (xs ys : List A) → In x ys → In x (xs ++ ys)
-in-right x [] ys h = h
-in-right x (z ∷ xs) ys h = inr (in-right x xs ys h)
+-- ---- what is listed and kept
 
 in-each : {A : Type 0} (x : A) (n : ℕ) (f : ℕ → List A) (i : ℕ) → i < n → In x (f i) → In x (each n f)
 unfolding each
