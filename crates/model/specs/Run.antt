@@ -1,5 +1,5 @@
 -- The runs of a segmentation, and the five numbers of a run. The quoted sentences are those of the scope paper (01), "The model". What a run
--- list tells of its segmentation is in `Runs`. Assumes nothing.
+-- list tells of its segmentation is in `RunLaws`. Assumes nothing.
 use mathlib.Core.List.{List, [], _∷_, _++_, reverse}
 use mathlib.Core.Bool.{Bool, true, false, _&&_, cond}
 use Prim.Native.Nat.{ℕ, suc}
@@ -34,19 +34,15 @@ isStay (Abs gap) = false
 unfoldable pub joins : Edge → Bool
 joins e = isStay (e .kind) && eqb (e .from) (e .to)
 
--- the first run of the list goes on to reading n
-abbrev pub lengthen : ℕ → List Run → List Run
-lengthen n [] = []
-lengthen n (r ∷ rs) = run (r .start) n (r .state) (r .level) (r .edge) ∷ rs
-
--- "A run is a longest stretch of readings joined by ..": the last run first. "(255 for the first run)"
-unfoldable pub runsBack : Plan → Seg → List Run
-runsBack P (first s m) = run 1 1 s m 255 ∷ []
-runsBack P (next g e m) =
-    cond (joins (edgeAt P e)) (lengthen (suc (readings g)) (runsBack P g)) (run (suc (readings g)) (suc (readings g)) (edgeAt P e .to) m e ∷ runsBack P g)
+-- "A run is a longest stretch of readings joined by ..", the last run first: it ends at reading n, and starts where an edge does not join.
+-- "(255 for the first run)"
+unfoldable pub backFrom : Plan → ℕ → Seg → List Run
+backFrom P n (first s m) = run 1 n s m 255 ∷ []
+backFrom P n (next g e m) =
+    cond (joins (edgeAt P e)) (backFrom P n g) (run (suc (readings g)) n (edgeAt P e .to) m e ∷ backFrom P (readings g) g)
 
 unfoldable pub runs : Plan → Seg → List Run
-runs P g = reverse (runsBack P g)
+runs P g = reverse (backFrom P (readings g) g)
 
 -- the five numbers of each run, in the order of that sentence
 abbrev pub five : Run → List ℤ
