@@ -4,7 +4,7 @@ use mathlib.Core.Path.{_≡_, refl, sym, _∙_, ap}
 use mathlib.Core.Option.{Option, none, some}
 use mathlib.Core.List.{List, []}
 use mathlib.Core.Bool.{Bool, true, false, cond}
-use Prim.Native.Nat.{ℕ, suc, _+_, _≤_, _<_}
+use Prim.Native.Nat.{ℕ, _≤_, _<_}
 use native.Mathlib.Omega.{arith}
 use lib.Dec.{eqb}
 use borrow.Author.Tests.{eqb-true, eq-eqb}
@@ -13,7 +13,7 @@ use lib.ListN.{length, take}
 use lib.Seq.{getD-take, length-take-le}
 use Rattle.plan.specs.declared.Plan.{Plan}
 use Rattle.model.specs.Segmentation.{Seg, first, next, readings, lastLevel}
-use Rattle.model.specs.Model.{edgeAt, penalty, square, lossAt, cost, lastState, Allowed, AllowedWhole, LeastCost, First}
+use Rattle.model.specs.Model.{square, lossAt, cost, lastState, Allowed, AllowedWhole, LeastCost, First}
 use Rattle.model.specs.Run.{runNumbers}
 use Rattle.model.specs.Listed.{listed, priced, listedAnswer, listedCost}
 use Rattle.model.specs.Refusals.{searchNumber, pointNumber}

@@ -5,7 +5,7 @@ use mathlib.Core.List.{List, [], _∷_}
 use mathlib.Core.Bool.{Bool, true, false, cond}
 use Prim.Native.Nat.{ℕ, suc}
 use native.Mathlib.Omega.{arith}
-use lib.IntN.{ℤ, pos}
+use lib.IntN.{ℤ}
 use lib.Signed.{ltZ, _<ℤ_, ltZ-yes, ltZ-no, <ℤ-irrefl}
 use lib.ListN.{length}
 use Rattle.integers.specs.Rep.{iz, eqZ, leN, ltN, ltZof, holds, fails}
