@@ -15,17 +15,20 @@ use Rattle.integers.specs.Rep as R
 use Rattle.integers.specs.Rep.{iz, _⊖_, leN, holds}
 use Rattle.plan.specs.declared.Plan.{Plan}
 use Rattle.model.specs.Cost.{Cost, value, nothing}
-use Rattle.model.specs.Layers.{readings}
-use Rattle.model.specs.Grid.{and-yes}
+use Rattle.model.specs.Bools.{and-yes}
 use Rattle.model.specs.Least.{leastBelow, given, firstHit, first-hit-is, Upto}
-use Rattle.model.specs.Model.{edgeAt, penalty, inSet, onGrid, lossAt, square}
+use Rattle.model.specs.Model.{edgeAt, width, penalty, inSet, onGrid, lossAt, square}
 use Rattle.model.specs.Checked.{Checked, searchNumber, pointNumber, accepted, accepted-point}
-use Rattle.model.specs.Result.{whole, point, found, refused, foundSeg, foundCost, unless-none, resultOf, searched, searched-right}
+use Rattle.model.specs.Result.{whole, point, found, refused, foundSeg, foundCost, resultOf}
+use Rattle.model.specs.Demand3.{unless-none}
+use Rattle.model.specs.Agree.{searched, searched-right}
 use Rattle.model.specs.Edges.{fromCount}
-use Rattle.model.specs.Search.{Node, node}
-use Rattle.model.specs.Opt.{opt, width, counts, offer, before, pointBest, pointCost}
-use Rattle.model.specs.Answer.{endCost, leastEnd, answer, trace, trace-right}
-use Rattle.model.specs.Runs.{run, joins, wayBack, walkBack, walk-step, walk-runs, runs, runs-from, backFrom, runNumbers, numbers}
+use Rattle.model.specs.Nodes.{Node, node}
+use Rattle.model.specs.Labels.{counts}
+use Rattle.model.specs.Opt.{opt, offer, before, pointBest, pointCost}
+use Rattle.model.specs.Answer.{endCost, leastEnd, answer, trace, trace-right, way-is}
+use Rattle.model.specs.Run.{run, joins, runs, runNumbers, numbers}
+use Rattle.model.specs.Runs.{wayBack, walkBack, walk-step, walk-runs, runs-from, backFrom}
 use Rattle.model.specs.Index.{noCost, held, held-some, some-held, none-held, edgeMin, Permitted, permitted-yes, yes-permitted}
 use Rattle.model.specs.Held.{penaltyMost, Table, Holding, minBelow, held-least, held-given, least-ext, leadsAt, leads-count, step-back, firstTable, nextTable, first-holding, next-holding}
 
@@ -154,12 +157,9 @@ module _ (P : Plan) (zs : List ℤ) (ch : Checked P) (W : ℕ) (losses : (t : �
     abbrev earlier : Node
     earlier = node (before-count e) (edgeAt P e .from) (P .lo +ℤ pos i)
 
-    way-is : wayBack P zs t (node k s (P .lo +ℤ pos j)) ≡ some (e, i)
-    unfolding wayBack
-    way-is =
-        let v : Node = node k s (P .lo +ℤ pos j) in
-        let q : Option·getD (opt P zs (suc (suc t)) v) nothing ≡ c = rw value-is refl in
-        ap (firstHit (P .edgecount) (width P) (offer P zs (suc t) (opt P zs (suc t)) v)) q
+    step-is : wayBack P zs t (node k s (P .lo +ℤ pos j)) ≡ some (e, i)
+    step-is =
+        way-is P zs t (node k s (P .lo +ℤ pos j)) c value-is
         ∙ step-back P zs ch W losses (suc t) (omega arith) H hold space k s j hk hs hj c value-is e i he hi meets lowest-edge
         (yes-permitted (edgeAt P e .kind) i j permitted) least (λ i′ h a. lowest-level i′ h (permitted-yes (edgeAt P e .kind) i′ j a))
 
@@ -167,7 +167,7 @@ module _ (P : Plan) (zs : List ℤ) (ch : Checked P) (W : ℕ) (losses : (t : �
     pub walk-on : (n : ℕ) → walkBack P zs n (suc (suc t)) (node k s (P .lo +ℤ pos j))
         ≡ cond (joins (edgeAt P e)) (walkBack P zs n (suc t) earlier) (run (suc (suc t)) n s (P .lo +ℤ pos j) e ∷ walkBack P zs (suc t) (suc t) earlier)
     unfolding before fromCount
-    walk-on n = walk-step P zs n t (node k s (P .lo +ℤ pos j)) e i way-is
+    walk-on n = walk-step P zs n t (node k s (P .lo +ℤ pos j)) e i step-is
 
     pub earlier-count : before-count e < counts
     earlier-count = leads-count P zs ch W losses (suc t) (omega arith) H hold space e k s (meets .0)
