@@ -1,11 +1,8 @@
 // Signed numbers: division rounded down, and levels as places counted from 0.
 ghost use mathlib.Core.Path.{_≡_};
-ghost use Prim.Native.Nat.{ℕ, _+_, _*_, _%_, _≤_, _<_};
-ghost use lib.IntN.{ℤ, pos, negsuc, _+ℤ_, _-ℤ_, _*ℤ_};
-ghost use lib.ListN.{length, getD, set};
-ghost use lib.Signed.{_≤ℤ_, _<ℤ_};
+ghost use Prim.Native.Nat.{_%_, _≤_, _<_};
+ghost use lib.IntN.{pos, _+ℤ_, _-ℤ_};
 ghost use Rattle.integers.specs.Floor.{floorDiv};
-ghost use Rattle.integers.specs.Level.{Placed};
 
 // The place of a level or a reading. Places are counted from -163840, so that levels moved by gaps and mirrored stay above zero.
 pub fn bias(x: i16) -> u64
@@ -30,28 +27,4 @@ pub fn floor_div(n: i64, d: i64) -> i64
     }
     let q = n / d;
     if n % d < 0 { q - 1 } else { q }
-}
-
-// p less q, signed.
-pub fn less(p: u64, q: u64) -> i64
-    requires { ⌜ (p < 4611686018427387904) × (q < 4611686018427387904) ⌝ }
-    ensures { λ r. ⌜ r ≡ pos p -ℤ pos q ⌝ }
-{
-    (p as i64) - (q as i64)
-}
-
-// The place of the signed level m in [x, y], whose levels are counted from -163840.
-pub fn place(m: i64, x: u64, y: u64) -> u64
-    requires { ⌜ (x ≤ y) × (y < 262144) ⌝ }
-    ensures { λ r. ⌜ Placed m x y r ⌝ }
-{
-    let low = less(x, 163840);
-    let high = less(y, 163840);
-    if m < low {
-        x
-    } else if high < m {
-        y
-    } else {
-        (m + 163840) as u64
-    }
 }

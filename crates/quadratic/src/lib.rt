@@ -3,6 +3,8 @@ ghost use mathlib.Core.Path.{_≡_};
 ghost use mathlib.Core.Bool.{true, false};
 ghost use Prim.Native.Nat.{ℕ, _+_, _*_, _-_, _≤_, _<_};
 ghost use lib.Dec.{leb};
+ghost use lib.IntN.{pos, _-ℤ_};
+ghost use Rattle.quadratic.specs.Level.{Placed};
 ghost use Rattle.quadratic.specs.Quad.{Small, Fine, Lowest, Cut, Turns, Stays, Halved, raised, pushed, moved, mirrored, up, down, Under, Over, value};
 
 pub const NONE: u64 = 1152921504606846976;
@@ -44,15 +46,39 @@ pub fn under(w: Quad, l: Quad, v: u64) -> bool
     rise(w.a, w.c, v) + fall(l.z, v) <= rise(l.a, l.c, v) + fall(w.z, v)
 }
 
+// p less q, signed.
+fn less(p: u64, q: u64) -> i64
+    requires { ⌜ (p < 4611686018427387904) × (q < 4611686018427387904) ⌝ }
+    ensures { λ r. ⌜ r ≡ pos p -ℤ pos q ⌝ }
+{
+    (p as i64) - (q as i64)
+}
+
+// The place of the signed level m in [x, y], whose levels are counted from -163840.
+fn place(m: i64, x: u64, y: u64) -> u64
+    requires { ⌜ (x ≤ y) × (y < 262144) ⌝ }
+    ensures { λ r. ⌜ Placed m x y r ⌝ }
+{
+    let low = less(x, 163840);
+    let high = less(y, 163840);
+    if m < low {
+        x
+    } else if high < m {
+        y
+    } else {
+        (m + 163840) as u64
+    }
+}
+
 // (p - q) / d on signed levels, rounded down: its place within [x, y].
 pub fn cut(p: u64, q: u64, d: u64, x: u64, y: u64) -> u64
     requires { ⌜ ((p < 2305843009213693952) × (q < 2305843009213693952)) × ((0 < d) × (d ≤ 2199023255552)) ⌝ }
     requires { ⌜ (x ≤ y) × (y < 262144) ⌝ }
     ensures { λ r. ⌜ Cut p q d x y r ⌝ }
 {
-    let n = integers::less(p, q + d * 163840);
-    let m = integers::floor_div(n, integers::less(d, 0));
-    integers::place(m, x, y)
+    let n = less(p, q + d * 163840);
+    let m = integers::floor_div(n, less(d, 0));
+    place(m, x, y)
 }
 
 // Where the slope turns, clamped.

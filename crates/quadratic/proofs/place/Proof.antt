@@ -1,4 +1,4 @@
--- `integers::place`: m is below both ends, above them, or between. Assumes nothing.
+-- `quadratic::place`: m is below both ends, above them, or between. Assumes nothing.
 use Prim.Native.Nat.{_<_, _^_}
 use native.Mathlib.Omega.{arith}
 use lib.Dec.{T}
@@ -8,10 +8,10 @@ use borrow.Author.Needs.{needs}
 use mir.Facts.{toZ-ofZ}
 use mir.Syntax.{w64}
 use mir.Val.{SFits}
-use Rattle.integers.specs.Level.{Placed}
+use Rattle.quadratic.specs.Level.{Placed}
 use Rattle.integers.specs.Rep.{iz, nz, _⊕_, _⊖_, leN, ltN, leZof, eqN, sfitsOf, holds, fails}
-use Rattle.integers.proofs.place.Statement.{statement}
-use Rattle.integers.proofs.place.Tie as tie
+use Rattle.quadratic.proofs.place.Statement.{statement}
+use Rattle.quadratic.proofs.place.Tie as tie
 
 less-requires : tie.Need-less-requires
 less-requires c κs = search needs

@@ -1,4 +1,4 @@
--- `integers::less`. Both are read back as themselves, since each is below half a word. Assumes nothing.
+-- `quadratic::less`. Both are read back as themselves, since each is below half a word. Assumes nothing.
 use Prim.Native.Nat.{_<_, _^_}
 use native.Mathlib.Omega.{arith}
 use lib.IntN.{pos, _-ℤ_}
@@ -6,9 +6,9 @@ use borrow.Author.Needs.{needs}
 use mir.Facts.{toZ-ofZ, toZ-pos}
 use mir.Syntax.{w64}
 use mir.Val.{SFits}
 use Rattle.integers.specs.Rep.{nz, _⊖_, sfitsOf}
-use Rattle.integers.proofs.less.Statement.{statement}
-use Rattle.integers.proofs.less.Tie as tie
+use Rattle.quadratic.proofs.less.Statement.{statement}
+use Rattle.quadratic.proofs.less.Tie as tie
 
 module _ (s : tie.Start) where
   fits : SFits w64 (pos (s .args .p) -ℤ pos (s .args .q))
