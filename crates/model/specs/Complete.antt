@@ -21,7 +21,7 @@ use Rattle.model.specs.Segmentation.{Seg, first, next, readings, lastLev
 use Rattle.model.specs.Model.{edgeAt, labelAt, above, width, permits, inSet, onGrid, lastState, Follows, cost, need, changes, HoldsAt, KeepsLabels, Allowed, AllowedWhole, LeastCost, order, First}
 use Rattle.model.specs.Listed.{each, eachOf, everySeg, followsTest, holdsTest, allBelow, allowedTest, wholeTest, pointTest, keep, lowerTest, key, earlier, firstIn, listed, lowest, leastIn, listedCost}
 use Rattle.model.specs.Lists.{In, in-left, in-right}
-use Rattle.model.specs.Bools.{no-way, and-yes, yes-and}
+use Rattle.model.specs.Bools.{clash, and-yes, yes-and}
 use Rattle.model.specs.Grid.{grid-index, leZ-true, leZ-both}
 use Rattle.model.specs.Order.{lower-yes, lower-no, lower-trans, back-length, order-one}
 use Rattle.model.specs.Checked.{checked}
@@ -51,7 +51,7 @@ in-keep {A} t x (z ∷ xs) h p = go (t z) refl h (in-keep t x xs)
     go : (b : Bool) → t z ≡ b → (x ≡ z) ⊎ In x xs → (In x xs → t x ≡ true → In x (keep t xs)) → In x (cond b (z ∷ keep t xs) (keep t xs))
     go true e (inl q) ih = inl q
     go true e (inr q) ih = inr (ih q p)
-    go false e (inl q) ih = let w : _≡_ {A = Bool} true false = sym p ∙ ap t q ∙ e in no-way (sym w)
+    go false e (inl q) ih = let w : _≡_ {A = Bool} true false = sym p ∙ ap t q ∙ e in clash (sym w)
     go false e (inr q) ih = ih q p
 
 keep-in : {A : Type 0} (t : A → Bool) (x : A) (xs : List A) → In x (keep t xs) → t x ≡ true

@@ -7,7 +7,7 @@ use mathlib.Core.Bool.{Bool, true, false, cond}
 use Prim.Native.Nat.{ℕ, _≤_, _<_}
 use native.Mathlib.Omega.{arith}
 use lib.Dec.{eqb}
-use borrow.Author.Tests.{eqb-true, eq-eqb}
+use borrow.Author.Tests.{eqb-true, eq-eqb, ne-eqb}
 use lib.IntN.{ℤ, pos}
 use lib.ListN.{length, take}
 use lib.Seq.{getD-take, length-take-le}
@@ -49,6 +49,10 @@ pub unless-none : (n : ℕ) (r : Result) → n ≡ 0 → unless n r ≡ r
 unfolding unless
 unless-none n r h = rw (eq-eqb n 0 h) refl
 
+pub unless-some : (k : ℕ) (r : Result) (n : ℕ) → k ≡ n → (n ≡ 0 → ⊥) → unless k r ≡ refused n
+unfolding unless
+unless-some k r n e h = rw (e, ne-eqb n 0 h) refl
+
 unless-found : (n : ℕ) (r : Result) (c : ℕ) (ns : List ℤ) → unless n r ≡ found c ns → (n ≡ 0) × (r ≡ found c ns)
 unfolding unless
 unless-found n r c ns h = go (eqb n 0) refl h
@@ -65,14 +69,15 @@ unless-refused n k r l h = go (eqb n 0) refl h
     go true e q = (eqb-true n 0 e, q)
     go false e q = let z : n ≡ k = cc in absurd (omega arith)
 
+loss-take : (zs : List ℤ) (n t : ℕ) (m : ℤ) → t < n → lossAt (take n zs) t m ≡ lossAt zs t m
+unfolding lossAt
+loss-take zs n t m h = ap (λ (z : ℤ). square z m) (getD-take n zs t (pos 0) h)
+
 -- a segmentation of at most n readings costs the same on the first n of zs
 cost-take : (P : Plan) (zs : List ℤ) (n : ℕ) (g : Seg) → readings g ≤ n → cost P (take n zs) g ≡ cost P zs g
-unfolding cost readings lossAt
-cost-take P zs n (first s m) h = ap (λ (z : ℤ). square z m) (getD-take n zs 0 (pos 0) h)
-cost-take P zs n (next g e m) h =
-    let a = cost-take P zs n g (omega arith) in
-    let b = ap (λ (z : ℤ). square z m) (getD-take n zs (readings g) (pos 0) h) in
-    rw (a, b) refl
+unfolding cost readings
+cost-take P zs n (first s m) h = loss-take zs n 0 m h
+cost-take P zs n (next g e m) h = rw (cost-take P zs n g (omega arith), loss-take zs n (readings g) m h) refl
 
 module _ (P : Plan) (zs : List ℤ) where
   seg-found : (o : Option Seg) (c : ℕ) (ns : List ℤ) → foundSeg P (priced P zs o) ≡ found c ns → (g : Seg) × (o ≡ some g) × (cost P zs g ≡ c) × (runNumbers P g ≡ ns)

@@ -1,5 +1,7 @@
--- The answer from the last layer as code holds it: the cost at a point, the best end, and the runs by the walk back. With this the whole
--- search is: `first-holding`, `next-holding` once a reading, `end-none` or `end-found`, and `step-back` once a reading. Assumes nothing.
+-- The results from the last layer as code holds it. What code has to show, once no number of `Refusals` refuses (`refused-by`,
+-- `point-refused-by`): `Holding` of the layer after all readings. A point: the least over the counts (`point-by`). A search: the least end, none
+-- of them (`none-by`) or the lowest state and level that has it (`found-by`); then for each step back the lowest edge and level (`walk-on`, and
+-- `earlier-value` for the next step), down to `walk-first`. Each law ends in `resultOf`. Assumes nothing.
 use mathlib.Core.Path.{_≡_, refl, sym, _∙_, ap}
 use mathlib.Core.Logic.{_⊎_, inl, inr}
 use mathlib.Core.Option.{Option, none, some, Option·map, Option·getD}
@@ -19,8 +21,9 @@ use Rattle.model.specs.Bools.{and-yes}
 use Rattle.model.specs.Least.{leastBelow, given, firstHit, first-hit-is, Upto}
 use Rattle.model.specs.Model.{edgeAt, width, penalty, inSet, onGrid, lossAt, square}
 use Rattle.model.specs.Checked.{Checked, searchNumber, pointNumber, accepted, accepted-point}
+use Rattle.model.specs.Listed.{listedAnswer, listedCost}
 use Rattle.model.specs.Result.{whole, point, found, refused, foundSeg, foundCost, resultOf}
-use Rattle.model.specs.Demand3.{unless-none}
+use Rattle.model.specs.Demand3.{unless-none, unless-some}
 use Rattle.model.specs.Agree.{searched, searched-right}
 use Rattle.model.specs.Edges.{fromCount}
 use Rattle.model.specs.Nodes.{Node, node}
@@ -192,6 +195,14 @@ module _ (P : Plan) (zs : List ℤ) (ch : Checked P) (losses : (t : ℕ) (m : �
   unfolding tableAt
   table-holding zero h = first-holding P zs (λ m on. omega (arith, losses 0 m on)) (ch .grid)
   table-holding (suc t) h = next-holding P zs ch lossMost losses (suc t) (omega arith) (tableAt P zs (suc t)) (table-holding t (omega arith)) (room (suc t) (omega arith))
+
+pub refused-by : (P : Plan) (zs : List ℤ) (n : ℕ) → searchNumber P (length zs) ≡ n → (n ≡ 0 → ⊥) → resultOf P zs whole ≡ refused n
+unfolding resultOf
+refused-by P zs n e h = unless-some (searchNumber P (length zs)) (foundSeg P (listedAnswer P zs)) n e h
+
+pub point-refused-by : (P : Plan) (zs : List ℤ) (s : ℕ) (m : ℤ) (n : ℕ) → pointNumber P (length zs) s m ≡ n → (n ≡ 0 → ⊥) → resultOf P zs (point s m) ≡ refused n
+unfolding resultOf
+point-refused-by P zs s m n e h = unless-some (pointNumber P (length zs) s m) (foundCost (listedCost P zs s m)) n e h
 
 module _ (P : Plan) (zs : List ℤ) (accepts : searchNumber P (length zs) ≡ 0) (H : Table) (hold : Holding P zs (length zs) H) where
   pub none-by : noCost ≤ leastEndAt P H → resultOf P zs whole ≡ refused 16

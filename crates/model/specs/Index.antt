@@ -1,4 +1,7 @@
--- What one edge makes of a function of the level, by the level's index above lo, as code holds it. Assumes nothing.
+-- What one edge makes of a function of the level, by the level's index above lo. Stay is the function itself, any the least value, up and down
+-- the running minimum moved by the gap, abs the lesser of both. What code has to show: its list has at each index the value `edgeMin`, or it
+-- looked at the permitted indices and has `edge-min-is` or `edge-min-none`. `edge-min` and `min-levels` make of it the least over the levels
+-- that the model permits. Assumes nothing.
 use mathlib.Core.Path.{_≡_, refl, sym, _∙_, ap, subst}
 use mathlib.Core.Logic.{_⊎_, inl, inr}
 use mathlib.Core.Option.{Option, none, some, Option·some-injective}

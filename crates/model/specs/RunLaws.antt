@@ -19,7 +19,7 @@ use Rattle.plan.specs.Build.{kindNumber, planNumber}
 use Rattle.model.specs.Segmentation.{Seg, first, next, readings, lastLevel, readings-pos}
 use Rattle.model.specs.Model.{edgeAt, onGrid, permits, lastState, Follows}
 use Rattle.model.specs.Run.{Run, run, isStay, joins, backFrom, runs, numbers, runNumbers}
-use Rattle.model.specs.Bools.{no-way, and-yes}
+use Rattle.model.specs.Bools.{clash, and-yes}
 use Rattle.model.specs.Grid.{leZ-both}
 use Rattle.model.specs.Lists.{In, in-reverse}
 use Rattle.model.specs.Checked.{Checked, checked}
@@ -114,10 +114,10 @@ prefix-twice a b (next g e m) h = go (ltb (readings g) b) refl (prefix-twice a b
 stay-level : (k : Kind) (m m′ : ℤ) → isStay k ≡ true → permits k m m′ ≡ true → m ≡ m′
 unfolding isStay permits
 stay-level Stay m m′ h p = let (a, b) = and-yes (leZ m m′) (leZ m′ m) p in leZ-both m m′ a b
-stay-level Any m m′ h p = no-way h
-stay-level (Up gap) m m′ h p = no-way h
-stay-level (Down gap) m m′ h p = no-way h
-stay-level (Abs gap) m m′ h p = no-way h
+stay-level Any m m′ h p = clash h
+stay-level (Up gap) m m′ h p = clash h
+stay-level (Down gap) m m′ h p = clash h
+stay-level (Abs gap) m m′ h p = clash h
 
 -- an edge that joins keeps state and level
 joins-keeps : (P : Plan) (g : Seg) (e : ℕ) (m : ℤ) → Follows P (next g e m) → joins (edgeAt P e) ≡ true → (edgeAt P e .to ≡ lastState P g) × (m ≡ lastLevel g)
@@ -214,10 +214,10 @@ module _ (P : Plan) where
 stay-number : (k : Kind) → isStay k ≡ true → kindNumber k ≡ 0
 unfolding isStay
 stay-number Stay h = refl
-stay-number Any h = no-way h
-stay-number (Up gap) h = no-way h
-stay-number (Down gap) h = no-way h
-stay-number (Abs gap) h = no-way h
+stay-number Any h = clash h
+stay-number (Up gap) h = clash h
+stay-number (Down gap) h = clash h
+stay-number (Abs gap) h = clash h
 
 module _ (P : Plan) (ch : Checked P) where
   -- two edges that join in one state are one
