@@ -4,7 +4,7 @@
 -- `earlier-value` for the next step), down to `walk-first`. Each law ends in `resultOf`. Assumes nothing.
 use mathlib.Core.Path.{_≡_, refl, sym, _∙_, ap}
 use mathlib.Core.Logic.{_⊎_, inl, inr}
-use mathlib.Core.Option.{Option, none, some, Option·map, Option·getD}
+use mathlib.Core.Option.{Option, none, some, Option·map}
 use mathlib.Core.List.{List, [], _∷_, reverse}
 use mathlib.Core.Bool.{Bool, true, false, cond}
 use Prim.Native.Nat.{ℕ, zero, suc, _+_, _*_, _≤_, _<_}
@@ -16,7 +16,7 @@ use lib.Signed.{leZ, mag, leZ-yes}
 use Rattle.integers.specs.Rep as R
 use Rattle.integers.specs.Rep.{iz, _⊖_, leN, holds}
 use Rattle.plan.specs.declared.Plan.{Plan}
-use Rattle.model.specs.Cost.{Cost, value, nothing}
+use Rattle.model.specs.Cost.{Cost, value}
 use Rattle.model.specs.Bools.{and-yes}
 use Rattle.model.specs.Least.{leastBelow, given, firstHit, first-hit-is, Upto}
 use Rattle.model.specs.Model.{edgeAt, width, penalty, inSet, onGrid, lossAt, square}
@@ -25,15 +25,14 @@ use Rattle.model.specs.Listed.{listedAnswer, listedCost}
 use Rattle.model.specs.Result.{whole, point, found, refused, foundSeg, foundCost, resultOf}
 use Rattle.model.specs.Demand3.{unless-none, unless-some}
 use Rattle.model.specs.Agree.{searched, searched-right}
-use Rattle.model.specs.Edges.{fromCount}
 use Rattle.model.specs.Nodes.{Node, node}
 use Rattle.model.specs.Labels.{counts}
-use Rattle.model.specs.Opt.{opt, offer, before, pointBest, pointCost}
+use Rattle.model.specs.Opt.{opt, before, pointBest, pointCost}
 use Rattle.model.specs.Answer.{endCost, leastEnd, answer, trace, trace-right, way-is}
 use Rattle.model.specs.Run.{run, joins, runs, runNumbers, numbers}
 use Rattle.model.specs.Runs.{wayBack, walkBack, walk-step, walk-runs, runs-from, backFrom}
 use Rattle.model.specs.Index.{noCost, held, held-some, some-held, none-held, edgeMin, Permitted, permitted-yes, yes-permitted}
-use Rattle.model.specs.Held.{penaltyMost, Table, Holding, minBelow, held-least, held-given, least-ext, leadsAt, leads-count, step-back, firstTable, nextTable, first-holding, next-holding}
+use Rattle.model.specs.Held.{penaltyMost, Table, Holding, minBelow, held-least, held-given, least-ext, fromCount, leadsAt, leads-count, step-back, firstTable, nextTable, first-holding, next-holding}
 
 -- ---- the losses of 16-bit numbers
 
