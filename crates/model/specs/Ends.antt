@@ -12,18 +12,18 @@ use native.Mathlib.Omega.{arith}
 use native.Mathlib.Nat.{mul-le-mul}
 use lib.IntN.{ℤ, pos, negsuc, natAbs, _+ℤ_, _-ℤ_}
 use lib.ListN.{length, getD}
-use lib.Signed.{leZ, mag, leZ-yes}
+use lib.Signed.{leZ, mag}
 use Rattle.integers.specs.Rep as R
-use Rattle.integers.specs.Rep.{iz, _⊖_, leN, holds}
+use Rattle.integers.specs.Rep.{iz, _⊖_}
 use Rattle.plan.specs.declared.Plan.{Plan}
 use Rattle.model.specs.Cost.{Cost, value}
 use Rattle.model.specs.Bools.{and-yes}
+use Rattle.model.specs.Grid.{leZ-nat, abs-is}
 use Rattle.model.specs.Least.{leastBelow, given, firstHit, first-hit-is, Upto}
 use Rattle.model.specs.Model.{edgeAt, width, penalty, inSet, onGrid, lossAt, square}
 use Rattle.model.specs.Checked.{Checked, searchNumber, pointNumber, accepted, accepted-point}
-use Rattle.model.specs.Listed.{listedAnswer, listedCost}
 use Rattle.model.specs.Result.{whole, point, found, refused, foundSeg, foundCost, resultOf}
-use Rattle.model.specs.Demand3.{unless-none, unless-some}
+use Rattle.model.specs.Demand3.{demand3, unless-none}
 use Rattle.model.specs.Agree.{searched, searched-right}
 use Rattle.model.specs.Nodes.{Node, node}
 use Rattle.model.specs.Labels.{counts}
@@ -36,22 +36,22 @@ use Rattle.model.specs.Held.{penaltyMost, Table, Holding, minBelow, held
 
 -- ---- the losses of 16-bit numbers
 
-most : (z : ℤ) → mag z < 32768 → (R.above z < 32768) × (R.below z ≤ 32768) × ((R.above z ≡ 0) ⊎ (R.below z ≡ 0))
-most (pos a) h = (h, omega arith, inr refl)
-most (negsuc a) h = (omega arith, h, inl refl)
-
-one-side : (z : ℤ) → (natAbs z ≡ R.above z + R.below z) × ((R.above z ≡ 0) ⊎ (R.below z ≡ 0))
-one-side (pos a) = (omega arith, inr refl)
-one-side (negsuc a) = (omega arith, inl refl)
+signed-16 : (z : ℤ) → mag z < 32768 → (R.above z < 32768) × (R.below z ≤ 32768)
+signed-16 (pos a) h = (h, omega arith)
+signed-16 (negsuc a) h = (omega arith, h)
 
 far : (z m lo hi : ℤ) → mag z < 32768 → mag lo < 32768 → mag hi < 32768 → leZ lo m ≡ true → leZ m hi ≡ true → natAbs (z -ℤ m) ≤ 65535
-far z m lo hi hz hl hh p q = go (one-side m .1) (one-side (z -ℤ m) .1)
+far z m lo hi hz hl hh p q = go (abs-is (z -ℤ m)) (signed-16 z hz) (signed-16 lo hl) (signed-16 hi hh) (leZ-nat lo m p) (leZ-nat m hi q) ((iz z ⊖ iz m) .is)
   where
-    go : (R.above m ≡ 0) ⊎ (R.below m ≡ 0) → (R.above (z -ℤ m) ≡ 0) ⊎ (R.below (z -ℤ m) ≡ 0) → natAbs (z -ℤ m) ≤ 65535
-    go (inl a) (inl b) = omega (arith, most z hz, most lo hl, most hi hh, one-side (z -ℤ m), leN (iz lo) (iz m) (leZ-yes (holds p)), leN (iz m) (iz hi) (leZ-yes (holds q)), (iz z ⊖ iz m) .is)
-    go (inl a) (inr b) = omega (arith, most z hz, most lo hl, most hi hh, one-side (z -ℤ m), leN (iz lo) (iz m) (leZ-yes (holds p)), leN (iz m) (iz hi) (leZ-yes (holds q)), (iz z ⊖ iz m) .is)
-    go (inr a) (inl b) = omega (arith, most z hz, most lo hl, most hi hh, one-side (z -ℤ m), leN (iz lo) (iz m) (leZ-yes (holds p)), leN (iz m) (iz hi) (leZ-yes (holds q)), (iz z ⊖ iz m) .is)
-    go (inr a) (inr b) = omega (arith, most z hz, most lo hl, most hi hh, one-side (z -ℤ m), leN (iz lo) (iz m) (leZ-yes (holds p)), leN (iz m) (iz hi) (leZ-yes (holds q)), (iz z ⊖ iz m) .is)
+    d : ℤ
+    d = z -ℤ m
+
+    go : ((natAbs d ≡ R.above d) × (R.below d ≡ 0)) ⊎ ((natAbs d ≡ R.below d) × (R.above d ≡ 0))
+        → (R.above z < 32768) × (R.below z ≤ 32768) → (R.above lo < 32768) × (R.below lo ≤ 32768) → (R.above hi < 32768) × (R.below hi ≤ 32768)
+        → R.above lo + R.below m ≤ R.above m + R.below lo → R.above m + R.below hi ≤ R.above hi + R.below m → R.above z + R.below m + R.below d ≡ R.above d + (R.below z + R.above m)
+        → natAbs d ≤ 65535
+    go (inl x) a b c e f g = omega arith
+    go (inr x) a b c e f g = omega arith
 
 abbrev pub lossMost : ℕ
 lossMost = 65535 * 65535
@@ -196,12 +196,10 @@ module _ (P : Plan) (zs : List ℤ) (ch : Checked P) (losses : (t : ℕ) (m : �
   table-holding (suc t) h = next-holding P zs ch lossMost losses (suc t) (omega arith) (tableAt P zs (suc t)) (table-holding t (omega arith)) (room (suc t) (omega arith))
 
 pub refused-by : (P : Plan) (zs : List ℤ) (n : ℕ) → searchNumber P (length zs) ≡ n → (n ≡ 0 → ⊥) → resultOf P zs whole ≡ refused n
-unfolding resultOf
-refused-by P zs n e h = unless-some (searchNumber P (length zs)) (foundSeg P (listedAnswer P zs)) n e h
+refused-by P zs = demand3 P zs .whole-early
 
 pub point-refused-by : (P : Plan) (zs : List ℤ) (s : ℕ) (m : ℤ) (n : ℕ) → pointNumber P (length zs) s m ≡ n → (n ≡ 0 → ⊥) → resultOf P zs (point s m) ≡ refused n
-unfolding resultOf
-point-refused-by P zs s m n e h = unless-some (pointNumber P (length zs) s m) (foundCost (listedCost P zs s m)) n e h
+point-refused-by P zs = demand3 P zs .point-early
 
 module _ (P : Plan) (zs : List ℤ) (accepts : searchNumber P (length zs) ≡ 0) (H : Table) (hold : Holding P zs (length zs) H) where
   pub none-by : noCost ≤ leastEndAt P H → resultOf P zs whole ≡ refused 16
