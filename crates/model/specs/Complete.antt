@@ -253,8 +253,12 @@ module _ (P : Plan) (zs : List ℤ) (built : planNumber P ≡ 0) where
   abbrev n : ℕ
   n = length zs
 
-  kept : (g : Seg) → AllowedWhole P n g → In g (keep (wholeTest P n) (everySeg P n))
+  -- what is kept of the listing is what is allowed
+  pub kept : (g : Seg) → AllowedWhole P n g → In g (keep (wholeTest P n) (everySeg P n))
   kept g a = in-keep (wholeTest P n) g (everySeg P n) (every-listed P built n g (a .count) (a .follows)) (whole-test P n g a)
+
+  pub kept-allowed : (g : Seg) → In g (keep (wholeTest P n) (everySeg P n)) → AllowedWhole P n g
+  kept-allowed g h = test-whole P n g (keep-in (wholeTest P n) g (everySeg P n) h)
 
   cheap : (g g′ : Seg) → Before P zs g g′ → cost P zs g ≤ cost P zs g′
   unfolding key
@@ -272,9 +276,8 @@ module _ (P : Plan) (zs : List ℤ) (built : planNumber P ≡ 0) where
   unfolding listed
   listed-first g p =
       let gs = keep (wholeTest P n) (everySeg P n) in
-      let ok : (h : Seg) → In h gs → AllowedWhole P n h = λ h k. test-whole P n h (keep-in (wholeTest P n) h (everySeg P n) k) in
-      let (i, b) = first-in P zs n gs g (λ h k. let a = ok h k in (a .count, a .follows)) p in
-      record { allowed = ok g i; cheapest = λ g′ a. cheap g g′ (b g′ (kept g′ a)); before = λ g′ a. tie g g′ (b g′ (kept g′ a)) }
+      let (i, b) = first-in P zs n gs g (λ h k. let a = kept-allowed h k in (a .count, a .follows)) p in
+      record { allowed = kept-allowed g i; cheapest = λ g′ a. cheap g g′ (b g′ (kept g′ a)); before = λ g′ a. tie g g′ (b g′ (kept g′ a)) }
 
   pub listed-none : listed P zs ≡ none → (g : Seg) → AllowedWhole P n g → ⊥
   unfolding listed
@@ -313,15 +316,18 @@ module _ (P : Plan) (zs : List ℤ) (built : planNumber P ≡ 0) (s : ℕ) (m : 
   abbrev len : ℕ
   len = length zs
 
-  kept-point : (g : Seg) → Allowed P len g → lastState P g ≡ s → lastLevel g ≡ m → In g (keep (pointTest P len s m) (everySeg P len))
+  pub kept-point : (g : Seg) → Allowed P len g → lastState P g ≡ s → lastLevel g ≡ m → In g (keep (pointTest P len s m) (everySeg P len))
   kept-point g a p q =
       in-keep (pointTest P len s m) g (everySeg P len) (every-listed P built len g (a .count) (a .follows)) (point-test P len g s m a p q)
+
+  pub kept-point-allowed : (g : Seg) → In g (keep (pointTest P len s m) (everySeg P len)) → Allowed P len g × (lastState P g ≡ s) × (lastLevel g ≡ m)
+  kept-point-allowed g h = test-point P len g s m (keep-in (pointTest P len s m) g (everySeg P len) h)
 
   pub listed-least : (c : ℕ) → listedCost P zs s m ≡ some c → LeastCost P zs len s m c
   unfolding listedCost
   listed-least c p =
       let ((g, i, e), b) = least-in P zs (keep (pointTest P len s m) (everySeg P len)) c p in
-      let (a, ps, pm) = test-point P len g s m (keep-in (pointTest P len s m) g (everySeg P len) i) in
+      let (a, ps, pm) = kept-point-allowed g i in
       record { met = (g, a, ps, pm, e); least = λ g′ a′ p′ q′. b g′ (kept-point g′ a′ p′ q′) }
 
   pub listed-point-none : listedCost P zs s m ≡ none → (g : Seg) → Allowed P len g → lastState P g ≡ s → lastLevel g ≡ m → ⊥

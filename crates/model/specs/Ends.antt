@@ -20,7 +20,7 @@ use Rattle.model.specs.Cost.{Cost, value}
 use Rattle.model.specs.Bools.{and-yes}
 use Rattle.model.specs.Grid.{leZ-nat, abs-is}
 use Rattle.model.specs.Least.{leastBelow, given, firstHit, first-hit-is, Upto}
-use Rattle.model.specs.Model.{edgeAt, width, penalty, inSet, onGrid, lossAt, square}
+use Rattle.model.specs.Model.{edgeAt, width, penaltyOf, inSet, onGrid, lossAt, square}
 use Rattle.model.specs.Checked.{Checked, searchNumber, pointNumber, accepted, accepted-point}
 use Rattle.model.specs.Result.{whole, point, found, refused, foundSeg, foundCost, resultOf}
 use Rattle.model.specs.Demand3.{demand3, unless-none}
@@ -31,8 +31,8 @@ use Rattle.model.specs.Opt.{opt, before, pointBest, pointCost}
 use Rattle.model.specs.Answer.{endCost, leastEnd, answer, trace, trace-right, way-is}
 use Rattle.model.specs.Run.{run, joins, runs, runNumbers, numbers}
 use Rattle.model.specs.Runs.{wayBack, walkBack, walk-step, walk-runs, runs-from, backFrom}
-use Rattle.model.specs.Index.{noCost, held, held-some, some-held, none-held, edgeMin, Permitted, permitted-yes, yes-permitted}
-use Rattle.model.specs.Held.{penaltyMost, Table, Holding, minBelow, held-least, held-given, least-ext, fromCount, leadsAt, leads-count, step-back, firstTable, nextTable, first-holding, next-holding}
+use Rattle.model.specs.Index.{noCost, held, held-some, some-held, none-held, Permitted, permitted-yes, yes-permitted}
+use Rattle.model.specs.Held.{penaltyMost, Table, edgeLeast, Holding, minBelow, held-least, held-given, least-ext, fromCount, leadsAt, leads-count, step-back, firstTable, nextTable, first-holding, next-holding}
 
 -- ---- the losses of 16-bit numbers
 
@@ -140,14 +140,14 @@ module _ (P : Plan) (zs : List ℤ) (ch : Checked P) (W : ℕ) (losses : (t : �
   before-count e = fromCount P (suc t) e k
 
   abbrev rest : ℕ → ℕ
-  rest e = penalty (edgeAt P e .class) + lossAt zs (suc t) (P .lo +ℤ pos j)
+  rest e = penaltyOf P e + lossAt zs (suc t) (P .lo +ℤ pos j)
 
   -- what is found one reading earlier
   abbrev heldAt : ℕ → ℕ → ℕ
   heldAt e i = H (before-count e) (edgeAt P e .from) i
 
   abbrev offers : ℕ → ℕ
-  offers e = edgeMin (width P) (edgeAt P e .kind) (heldAt e) j
+  offers e = edgeLeast P (suc t) H k j e
 
   -- the edge leads here, and its least over the permitted levels meets the value
   abbrev Meets : ℕ → Type 0
