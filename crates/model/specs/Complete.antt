@@ -71,16 +71,13 @@ module _ (P : Plan) (built : planNumber P ≡ 0) where
   unfolding everySeg readings Follows
   every-one zero (first s m) n f =
       let (h, e) = grid-index P m (f .1) in
-      in-each (first s m) (P .states) (λ s. each (width P) (λ j. first s (P .lo +ℤ pos j) ∷ [])) s (checked P built .starts s (f .0))
-      (in-each (first s m) (width P) (λ j. first s (P .lo +ℤ pos j) ∷ []) (above (P .lo) m) h (inl (ap (first s) (sym e))))
+      in-each (first s m) (P .states) _ s (checked P built .starts s (f .0)) (in-each (first s m) (width P) _ (above (P .lo) m) h (inl (ap (first s) (sym e))))
   every-one zero (next g e m) n f = absurd (omega (arith, readings-pos g))
   every-one (suc t) (first s m) n f = absurd (omega arith)
   every-one (suc t) (next g e m) n f =
       let (h, i) = grid-index P m (f .4) in
-      in-eachOf (next g e m) (everySeg P (suc t)) (λ g. each (P .edgecount) (λ e. each (width P) (λ j. next g e (P .lo +ℤ pos j) ∷ []))) g
-      (every-one t g (omega arith) (f .0))
-      (in-each (next g e m) (P .edgecount) (λ e. each (width P) (λ j. next g e (P .lo +ℤ pos j) ∷ [])) e (f .1)
-      (in-each (next g e m) (width P) (λ j. next g e (P .lo +ℤ pos j) ∷ []) (above (P .lo) m) h (inl (ap (next g e) (sym i)))))
+      in-eachOf (next g e m) (everySeg P (suc t)) _ g (every-one t g (omega arith) (f .0))
+      (in-each (next g e m) (P .edgecount) _ e (f .1) (in-each (next g e m) (width P) _ (above (P .lo) m) h (inl (ap (next g e) (sym i)))))
 
   -- every segmentation that keeps the edge rules of the plan is listed
   pub every-listed : (n : ℕ) (g : Seg) → readings g ≡ n → Follows P g → In g (everySeg P n)
