@@ -10,7 +10,7 @@ use native.Mathlib.Omega.{arith}
 use native.Mathlib.Decide.{decLe, ℕ-discrete}
 use lib.Dec.{leb, ltb, eqb}
 use borrow.Author.Tests.{ltb-true, ltb-false, leb-true, leb-false, eqb-true, lt-ltb, le-leb, eq-eqb}
-use lib.IntN.{ℤ, pos, _+ℤ_}
+use lib.IntN.{ℤ}
 use lib.Signed.{leZ, ≤ℤ-refl}
 use lib.ListN.{length}
 use Rattle.integers.specs.Rep.{nz, ltN}
@@ -150,14 +150,14 @@ module _ (P : Plan) (n : ℕ) (g : Seg) where
       record {
         count = eqb-true (readings g) n a;
         follows = test-follows P g b;
-        labels = λ i k. test-holds _ _ _ (all-yes (λ i. holdsTest (labelAt P i) (readings g) (changes P (labelAt P i) g)) (P .labelcount) i c k);
+        labels = λ i k. test-holds _ _ _ (all-yes _ (P .labelcount) i c k);
       }
 
   allowed-test : Allowed P n g → allowedTest P n g ≡ true
   unfolding allowedTest KeepsLabels
   allowed-test a =
       yes-and _ _ (eq-eqb _ _ (a .count)) (yes-and _ _ (follows-test P g (a .follows))
-      (yes-all (λ i. holdsTest (labelAt P i) (readings g) (changes P (labelAt P i) g)) (P .labelcount) (λ i k. holds-test _ _ _ (a .labels i k))))
+      (yes-all _ (P .labelcount) (λ i k. holds-test _ _ _ (a .labels i k))))
 
   test-whole : wholeTest P n g ≡ true → AllowedWhole P n g
   unfolding wholeTest
@@ -168,7 +168,7 @@ module _ (P : Plan) (n : ℕ) (g : Seg) where
       record {
         count = eqb-true (readings g) n a;
         follows = test-follows P g b;
-        labels = λ i k. eqb-true _ _ (all-yes (λ i. eqb (changes P (labelAt P i) g) (need (labelAt P i))) (P .labelcount) i c k);
+        labels = λ i k. eqb-true _ _ (all-yes _ (P .labelcount) i c k);
         ends = d;
       }
 
@@ -176,7 +176,7 @@ module _ (P : Plan) (n : ℕ) (g : Seg) where
   unfolding wholeTest
   whole-test a =
       yes-and _ _ (eq-eqb _ _ (a .count)) (yes-and _ _ (follows-test P g (a .follows))
-      (yes-and _ _ (yes-all (λ i. eqb (changes P (labelAt P i) g) (need (labelAt P i))) (P .labelcount) (λ i k. eq-eqb _ _ (a .labels i k))) (a .ends)))
+      (yes-and _ _ (yes-all _ (P .labelcount) (λ i k. eq-eqb _ _ (a .labels i k))) (a .ends)))
 
   module _ (s : ℕ) (m : ℤ) where
     test-point : pointTest P n s m g ≡ true → Allowed P n g × (lastState P g ≡ s) × (lastLevel g ≡ m)

@@ -19,7 +19,7 @@ use Rattle.plan.specs.declared.Plan.{Plan}
 use Rattle.model.specs.Cost.{Cost, value}
 use Rattle.model.specs.Bools.{and-yes}
 use Rattle.model.specs.Grid.{leZ-nat, abs-is}
-use Rattle.model.specs.Least.{leastBelow, given, firstHit, first-hit-is, Upto}
+use Rattle.model.specs.Least.{given, firstHit, first-hit-is, Upto}
 use Rattle.model.specs.Model.{edgeAt, width, penaltyOf, inSet, onGrid, lossAt, square}
 use Rattle.model.specs.Checked.{Checked, searchNumber, pointNumber, accepted, accepted-point}
 use Rattle.model.specs.Result.{whole, point, found, refused, foundSeg, foundCost, resultOf}
@@ -83,7 +83,7 @@ module _ (P : Plan) (zs : List ℤ) (H : Table) (hold : Holding P zs (length zs)
   pub point-held : (s j : ℕ) → s < P .states → j < width P → pointCost P zs s (P .lo +ℤ pos j) ≡ held (pointAt H s j)
   unfolding pointCost pointBest pointAt value
   point-held s j hs hj =
-      ap (Option·map value) (sym (held-least counts (λ k. H k s j) ∙ least-ext counts (λ k. held (H k s j)) (λ k. opt P zs (length zs) (node k s (P .lo +ℤ pos j))) (λ k hk. hold .at k s j hk hs hj)))
+      ap (Option·map value) (sym (held-least counts (λ k. H k s j) ∙ least-ext counts _ _ (λ k hk. hold .at k s j hk hs hj)))
       ∙ same (held (minBelow counts (λ k. H k s j)))
     where
       same : (o : Option Cost) → Option·map (λ (x : ℕ). x) o ≡ o
@@ -98,8 +98,7 @@ module _ (P : Plan) (zs : List ℤ) (H : Table) (hold : Holding P zs (length zs)
   unfolding leastEndAt leastEnd
   least-end =
       held-least (P .states) (λ s. minBelow (width P) (λ j. endAt P H s j))
-      ∙ least-ext (P .states) (λ s. held (minBelow (width P) (λ j. endAt P H s j))) (λ s. leastBelow (width P) (λ j. endCost P zs s j))
-      (λ s hs. held-least (width P) (λ j. endAt P H s j) ∙ least-ext (width P) (λ j. held (endAt P H s j)) (λ j. endCost P zs s j) (λ j hj. end-held s j hs hj))
+      ∙ least-ext (P .states) _ _ (λ s hs. held-least (width P) (λ j. endAt P H s j) ∙ least-ext (width P) _ _ (λ j hj. end-held s j hs hj))
 
   pub end-none : noCost ≤ leastEndAt P H → answer P zs ≡ none
   unfolding answer
