@@ -3,6 +3,8 @@
 --   before it looks     `refused-by`, `point-refused-by` (`Ends`); else `ready-search` or `ready-point`
 --   a layer             `tableAt`: `firstTable`, then `nextTable` of the one before; edge by edge `edge-skip`, `edge-take` (`Held`), for each
 --                       kind `edgeMin` (`Index`); every number is low or none (`table-cases`)
+--   the labels          `labelOn-at`, `labelOn-none` (`Labels`), then by cases which edges lead to a count, and from which count: `leads-free`,
+--                       `leads-closing`, `leads-inside`, `from-free`, `from-closing`, `from-inside`
 --   the result          with `table-held` of the last layer: `none-by`, `found-by`, `point-by` (`Ends`)
 --   the walk back       an edge meets the number (`some-edge`), and a level (`some-level`); at the lowest of them `step-walk`; at the first
 --                       reading `walk-first` (`Ends`); there are few runs (`walk-few`, `Runs`)
@@ -10,23 +12,25 @@
 use mathlib.Core.Path.{_≡_, refl, sym, _∙_}
 use mathlib.Core.Logic.{_⊎_, inl, inr}
 use mathlib.Core.List.{List, _∷_}
-use mathlib.Core.Option.{some}
+use mathlib.Core.Option.{none, some}
 use mathlib.Core.Bool.{Bool, true, false, _&&_, cond}
-use Prim.Native.Nat.{ℕ, zero, suc, _+_, _*_, _≤_, _<_}
+use Prim.Native.Nat.{ℕ, zero, suc, _+_, _-_, _*_, _≤_, _<_}
 use native.Mathlib.Omega.{arith}
 use native.Mathlib.Decide.{decLt}
-use lib.Dec.{ltb, eqb}
-use borrow.Author.Tests.{ltb-true, ltb-false}
+use lib.Dec.{leb, ltb, eqb}
+use borrow.Author.Tests.{ltb-true, ltb-false, leb-true, eqb-true, le-leb, eq-eqb, ne-eqb}
 use lib.IntN.{ℤ, pos, _+ℤ_}
 use lib.ListN.{length, getD}
 use lib.Signed.{mag}
 use Rattle.plan.specs.declared.Plan.{Plan}
-use Rattle.model.specs.Model.{edgeAt, width, penaltyOf, inSet, onGrid, lossAt}
+use Rattle.plan.specs.declared.Label.{Label}
+use Rattle.model.specs.Model.{edgeAt, markOf, need, width, penaltyOf, inSet, onGrid, lossAt}
 use Rattle.model.specs.Refusals.{searchNumber, pointNumber}
 use Rattle.model.specs.Run.{run, joins}
 use Rattle.model.specs.Checked.{Checked, accepted, accepted-point}
+use Rattle.model.specs.Bools.{and-yes, yes-and, same-test}
 use Rattle.model.specs.Grid.{index-grid}
-use Rattle.model.specs.Labels.{counts}
+use Rattle.model.specs.Labels.{labelOn, labelTest, countAfter, countBefore, counts}
 use Rattle.model.specs.Nodes.{node}
 use Rattle.model.specs.Opt.{opt}
 use Rattle.model.specs.Index.{noCost, some-held, edge-min, Permitted, permitted-yes}
@@ -53,6 +57,55 @@ module _ (P : Plan) (zs : List ℤ) (lo-16 : mag (P .lo) < 32768) (hi-16 : mag (
   ready-point s m h =
       let a = accepted-point P (length zs) s m h in
       record { plan = a .plan; some-readings = a .some-readings; few-readings = a .few-readings; lo-16 = lo-16; hi-16 = hi-16; readings-16 = readings-16 }
+
+-- ---- what the labels ask of an edge at boundary t, case by case: no label has the boundary, it is a label's last one, or another of it
+
+after-minus : (m n : ℕ) → eqb (n - m + m) n ≡ leb m n
+after-minus m n =
+    same-test (eqb (n - m + m) n) (leb m n) (λ h. le-leb m n (omega (arith, eqb-true (n - m + m) n h))) (λ h. eq-eqb (n - m + m) n (omega (arith, leb-true m n h)))
+
+minus-inside : (m k n : ℕ) → (leb (k - m + m) n && eqb k (k - m + m)) ≡ (leb m k && leb k n)
+minus-inside m k n = same-test (leb (k - m + m) n && eqb k (k - m + m)) (leb m k && leb k n)
+    (λ h. let (a, b) = and-yes (leb (k - m + m) n) (eqb k (k - m + m)) h in
+        let c = leb-true (k - m + m) n a in
+        let d = eqb-true k (k - m + m) b in
+        yes-and _ _ (le-leb m k (omega arith)) (le-leb k n (omega arith)))
+    (λ h. let (a, b) = and-yes (leb m k) (leb k n) h in
+        let c = leb-true m k a in
+        let d = leb-true k n b in
+        yes-and _ _ (le-leb (k - m + m) n (omega arith)) (eq-eqb k (k - m + m) (omega arith)))
+
+module _ (P : Plan) (t e k s : ℕ) where
+  module _ (free : labelOn P t ≡ none) where
+    pub from-free : fromCount P t e k ≡ 0
+    unfolding fromCount countBefore
+    from-free = rw free refl
+
+    pub leads-free : leadsAt P t e k s ≡ (eqb s (edgeAt P e .to) && eqb k 0)
+    unfolding leadsAt labelTest countAfter
+    leads-free = rw (from-free, free) refl
+
+  module _ (l : Label) (on : labelOn P t ≡ some l) where
+    abbrev mark : ℕ
+    mark = markOf l (edgeAt P e .kind)
+
+    module _ (last : suc t ≡ l .q) where
+      pub from-closing : fromCount P t e k ≡ need l - mark
+      unfolding fromCount countBefore
+      from-closing = rw (on, eq-eqb (suc t) (l .q) last) refl
+
+      pub leads-closing : leadsAt P t e k s ≡ (eqb s (edgeAt P e .to) && (leb mark (need l) && eqb k 0))
+      unfolding leadsAt labelTest countAfter
+      leads-closing = rw (from-closing, on, eq-eqb (suc t) (l .q) last, after-minus mark (need l)) refl
+
+    module _ (inside : suc t ≡ l .q → ⊥) where
+      pub from-inside : fromCount P t e k ≡ k - mark
+      unfolding fromCount countBefore
+      from-inside = rw (on, ne-eqb (suc t) (l .q) inside) refl
+
+      pub leads-inside : leadsAt P t e k s ≡ (eqb s (edgeAt P e .to) && (leb mark k && leb k (need l)))
+      unfolding leadsAt labelTest countAfter
+      leads-inside = rw (from-inside, on, ne-eqb (suc t) (l .q) inside, minus-inside mark k (need l)) refl
 
 module _ (P : Plan) (zs : List ℤ) (R : Ready P zs) where
   losses : (t : ℕ) (m : ℤ) → onGrid P m ≡ true → lossAt zs t m ≤ lossMost
