@@ -67,13 +67,13 @@ after-minus m n =
 minus-inside : (m k n : ℕ) → (leb (k - m + m) n && eqb k (k - m + m)) ≡ (leb m k && leb k n)
 minus-inside m k n = same-test (leb (k - m + m) n && eqb k (k - m + m)) (leb m k && leb k n)
     (λ h. let (a, b) = and-yes (leb (k - m + m) n) (eqb k (k - m + m)) h in
-        let c = leb-true (k - m + m) n a in
-        let d = eqb-true k (k - m + m) b in
-        yes-and _ _ (le-leb m k (omega arith)) (le-leb k n (omega arith)))
+    let c = leb-true (k - m + m) n a in
+    let d = eqb-true k (k - m + m) b in
+    yes-and _ _ (le-leb m k (omega arith)) (le-leb k n (omega arith)))
     (λ h. let (a, b) = and-yes (leb m k) (leb k n) h in
-        let c = leb-true m k a in
-        let d = leb-true k n b in
-        yes-and _ _ (le-leb (k - m + m) n (omega arith)) (eq-eqb k (k - m + m) (omega arith)))
+    let c = leb-true m k a in
+    let d = leb-true k n b in
+    yes-and _ _ (le-leb (k - m + m) n (omega arith)) (eq-eqb k (k - m + m) (omega arith)))
 
 module _ (P : Plan) (t e k s : ℕ) where
   module _ (free : labelOn P t ≡ none) where
