@@ -7,7 +7,7 @@
 --                       `leads-closing`, `leads-inside`, `from-free`, `from-closing`, `from-inside`
 --   the result          with `table-held` of the last layer: `none-by`, `found-by`, `point-by` (`Ends`)
 --   the walk back       an edge meets the number (`some-edge`), and a level (`some-level`); at the lowest of them `step-walk`; at the first
---                       reading `walk-first` (`Ends`); there are few runs (`walk-few`, `Runs`)
+--                       reading `walk-first` (`Ends`); it starts at `end-is`, and there are few runs (`few-runs-at`)
 -- Assumes nothing.
 use mathlib.Core.Path.{_≡_, refl, sym, _∙_}
 use mathlib.Core.Logic.{_⊎_, inl, inr}
@@ -35,8 +35,8 @@ use Rattle.model.specs.Nodes.{node}
 use Rattle.model.specs.Opt.{opt}
 use Rattle.model.specs.Index.{noCost, some-held, edge-min, Permitted, permitted-yes}
 use Rattle.model.specs.Held.{penaltyMost, Table, Holding, raise, minBelow, min-met, fromCount, leadsAt, edgeLeast, byEdge, firstTable, nextTable, opt-low, next-most}
-use Rattle.model.specs.Runs.{walkBack}
-use Rattle.model.specs.Ends.{lossMost, losses-low, room, tableAt, table-holding, walk-on, earlier-count}
+use Rattle.model.specs.Runs.{walkBack, walk-few}
+use Rattle.model.specs.Ends.{endAt, leastEndAt, lossMost, losses-low, room, tableAt, table-holding, walk-on, earlier-count}
 
 -- what a call knows once no number refuses; the ranges are those of the types
 pub record Ready (P : Plan) (zs : List ℤ) : Type 0 where
@@ -107,6 +107,18 @@ module _ (P : Plan) (t e k s : ℕ) where
       unfolding leadsAt labelTest countAfter
       leads-inside = rw (from-inside, on, ne-eqb (suc t) (l .q) inside, minus-inside mark k (need l)) refl
 
+-- ---- the end from which the walk back starts
+
+pub end-is : (P : Plan) (H : Table) (s j : ℕ) → leastEndAt P H < noCost → endAt P H s j ≡ leastEndAt P H → (inSet (P .end) s ≡ true) × (H 0 s j ≡ leastEndAt P H)
+unfolding endAt
+end-is P H s j low e = go (inSet (P .end) s) refl e
+  where
+    go : (b : Bool) → inSet (P .end) s ≡ b → cond b (H 0 s j) noCost ≡ leastEndAt P H → (inSet (P .end) s ≡ true) × (H 0 s j ≡ leastEndAt P H)
+    go true p q = (p, q)
+    go false p q = absurd (omega arith)
+
+-- ---- the layers
+
 module _ (P : Plan) (zs : List ℤ) (R : Ready P zs) where
   losses : (t : ℕ) (m : ℤ) → onGrid P m ≡ true → lossAt zs t m ≤ lossMost
   losses = losses-low P zs (R .lo-16) (R .hi-16) (R .readings-16)
@@ -114,6 +126,10 @@ module _ (P : Plan) (zs : List ℤ) (R : Ready P zs) where
   pub table-held : (t : ℕ) → 1 ≤ t → t ≤ 4096 → Holding P zs t (tableAt P zs t)
   table-held zero h k = absurd (omega arith)
   table-held (suc t) h k = table-holding P zs (R .plan) losses t (omega arith)
+
+  value-held : (t k s j : ℕ) → 1 ≤ t → t ≤ 4096 → k < counts → s < P .states → j < width P → tableAt P zs t k s j < noCost
+      → opt P zs t (node k s (P .lo +ℤ pos j)) ≡ some (tableAt P zs t k s j)
+  value-held t k s j h l hk hs hj d = sym (table-held t h l .at k s j hk hs hj) ∙ some-held (tableAt P zs t k s j) d
 
   table-most : (t k s j : ℕ) → 1 ≤ t → t ≤ 4096 → j < width P → tableAt P zs t k s j ≤ noCost
   unfolding tableAt firstTable
@@ -133,9 +149,13 @@ module _ (P : Plan) (zs : List ℤ) (R : Ready P zs) where
     where
       go : Dec (tableAt P zs t k s j < noCost) → tableAt P zs t k s j ≤ noCost → (tableAt P zs t k s j ≡ noCost) ⊎ (tableAt P zs t k s j ≤ t * (lossMost + penaltyMost))
       go (yes d) m =
-          inr (opt-low P zs (R .plan) lossMost losses t (node k s (P .lo +ℤ pos j)) (tableAt P zs t k s j)
-          (sym (table-held t h l .at k s j hk hs hj) ∙ some-held (tableAt P zs t k s j) d))
+          inr (opt-low P zs (R .plan) lossMost losses t (node k s (P .lo +ℤ pos j)) (tableAt P zs t k s j) (value-held t k s j h l hk hs hj d))
       go (no d) m = inl (omega arith)
+
+  -- there are no more runs than readings
+  pub few-runs-at : (n t k s j : ℕ) → t < 4096 → k < counts → s < P .states → j < width P → tableAt P zs (suc t) k s j < noCost
+      → length (walkBack P zs n (suc t) (node k s (P .lo +ℤ pos j))) ≤ suc t
+  few-runs-at n t k s j l hk hs hj d = walk-few P zs n t (node k s (P .lo +ℤ pos j)) (tableAt P zs (suc t) k s j) (value-held (suc t) k s j (omega arith) l hk hs hj d)
 
   -- ---- one step back, from the number at count k, state s and index j after t + 2 readings
 
@@ -193,7 +213,7 @@ module _ (P : Plan) (zs : List ℤ) (R : Ready P zs) where
         space = room (suc t) (omega (arith, R .few-readings))
 
         value-is : opt P zs (suc (suc t)) (node k s (P .lo +ℤ pos j)) ≡ some (tableAt P zs (suc (suc t)) k s j)
-        value-is = sym (table-held (suc (suc t)) (omega arith) (omega (arith, R .few-readings)) .at k s j hk hs hj) ∙ some-held (tableAt P zs (suc (suc t)) k s j) low
+        value-is = value-held (suc (suc t)) k s j (omega arith) (omega (arith, R .few-readings)) hk hs hj low
 
         earlier-held : Holding P zs (suc t) T
         earlier-held = table-held (suc t) (omega arith) (omega (arith, R .few-readings))
