@@ -9,7 +9,7 @@ use Rattle.plan.specs.declared.Label.{Label}
 use Rattle.plan.specs.declared.Edge.{Edge}
 use Rattle.model.specs.Model.{edgeAt}
 use Rattle.model.specs.Labels.{labelOn, countAfter, countBefore, labelTest}
-use Rattle.model.specs.Edges.{fromCount}
+use Rattle.model.specs.Held.{fromCount}
 use Rattle.model.specs.Held.{leadsAt}
 use Rattle.labels.specs.declared.Cover.{Cover}
 use Rattle.labels.specs.declared.Cover.the-variants.{Free, By}

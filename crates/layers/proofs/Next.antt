@@ -17,7 +17,7 @@ use Rattle.plan.specs.declared.Plan.{Plan}
 use Rattle.plan.specs.declared.Label.{Label}
 use Rattle.model.specs.Model.{width, edgeAt, lossAt}
 use Rattle.model.specs.Labels.{labelOn, counts, countBefore}
-use Rattle.model.specs.Edges.{fromCount}
+use Rattle.model.specs.Held.{fromCount}
 use Rattle.model.specs.Index.{noCost}
 use Rattle.model.specs.Held.{raise, penaltyMost, Table, Holding, minBelow, min-none, byEdge, leadsAt, leads-count, nextTable}
 use Rattle.model.specs.Ends.{lossMost, tableAt, table-holding, room}

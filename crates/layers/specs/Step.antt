@@ -11,7 +11,7 @@ use Rattle.plan.specs.declared.Label.{Label}
 use Rattle.plan.specs.Build.{gapOf, noEdge}
 use Rattle.model.specs.Model.{edgeAt, penalty, width}
 use Rattle.model.specs.Labels.{labelOn, countBefore}
-use Rattle.model.specs.Edges.{fromCount}
+use Rattle.model.specs.Held.{fromCount}
 use Rattle.model.specs.Index.{noCost, edgeMin}
 use Rattle.model.specs.Held.{raise, penaltyMost, Table, leadsAt, byEdge, minBelow}
 use Rattle.labels.specs.Boundary.{leadsFrom, leads-at}

@@ -4,12 +4,12 @@ use mathlib.Core.Bool.{Bool, true, false, _&&_}
 use Prim.Native.Nat.{ℕ}
 use native.Mathlib.Omega.{arith}
 
-pub no-way {ℓ} : {A : Type ℓ} → _≡_ {A = Bool} false true → A
-no-way e = let z : _≡_ {A = ℕ} 0 1 = cc in absurd (omega arith)
+pub clash {ℓ} : {A : Type ℓ} → _≡_ {A = Bool} false true → A
+clash e = let z : _≡_ {A = ℕ} 0 1 = cc in absurd (omega arith)
 
 pub and-yes : (a b : Bool) → (a && b) ≡ true → (a ≡ true) × (b ≡ true)
 and-yes true b h = (refl, h)
-and-yes false b h = no-way h
+and-yes false b h = clash h
 
 pub yes-and : (a b : Bool) → a ≡ true → b ≡ true → (a && b) ≡ true
 yes-and a b p q = rw (p, q)

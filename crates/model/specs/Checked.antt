@@ -24,7 +24,7 @@ use Rattle.plan.specs.declared.EdgeRead.the-variants.{Is, Not}
 use Rattle.plan.specs.declared.EdgeStep.the-variants.{RefuseEdge}
 use Rattle.plan.specs.Build.{pick, anyBelow, firstBelow, kindNumber, gapOf, kindOf, kindAt, withKind, edgeOf, sameEdge, hasEdge, noEdge, noLabel, readEdge, freshEdge, edgeStep, edgeStepNumber, entryNumber, edgesNumber, labelNumber, labelsNumber, gridOk, maskOk, statesOk, openNumber, orElse, planNumber}
 use Rattle.model.specs.Model.{edgeAt, labelAt, above, width, inSet, onGrid}
-use Rattle.model.specs.Bools.{no-way}
+use Rattle.model.specs.Bools.{clash}
 use Rattle.model.specs.Grid.{above-add}
 unfoldable pub use Rattle.model.specs.Refusals.{countOk, late, searchNumber, pointNumber}
 
@@ -73,12 +73,12 @@ or-zero a b p = go (eqb a 0) refl p
     go false e q = absurd (eqb-false a 0 e q)
 
 yes-if : (b x : Bool) → pick b false x ≡ true → (b ≡ false) × (x ≡ true)
-yes-if true x p = no-way p
+yes-if true x p = clash p
 yes-if false x p = (refl, p)
 
 yes-both : (b x : Bool) → pick b x false ≡ true → (b ≡ true) × (x ≡ true)
 yes-both true x p = (refl, p)
-yes-both false x p = no-way p
+yes-both false x p = clash p
 
 first-zero : (f : ℕ → ℕ) (n i : ℕ) → firstBelow f n ≡ 0 → i < n → f i ≡ 0
 unfolding firstBelow
@@ -97,7 +97,7 @@ any-not f zero i p h = absurd (omega arith)
 any-not f (suc n) i p h = go (anyBelow f n) refl p (ℕ-discrete i n) (any-not f n i)
   where
     go : (b : Bool) → anyBelow f n ≡ b → pick b true (f n) ≡ false → Dec (i ≡ n) → (anyBelow f n ≡ false → i < n → f i ≡ false) → f i ≡ false
-    go true e q d ih = no-way (sym q)
+    go true e q d ih = clash (sym q)
     go false e q (yes k) ih = rw k q
     go false e q (no k) ih = ih e (omega arith)
 
@@ -105,7 +105,7 @@ any-not f (suc n) i p h = go (anyBelow f n) refl p (ℕ-discrete i n) (any-not f
 
 grid-le : (lo hi : ℤ) → ltZ hi lo ≡ false → leZ lo hi ≡ true
 grid-le (pos a) (pos b) h = le-leb a b (ltb-false b a h)
-grid-le (pos a) (negsuc b) h = no-way (sym h)
+grid-le (pos a) (negsuc b) h = clash (sym h)
 grid-le (negsuc a) (pos b) h = refl
 grid-le (negsuc a) (negsuc b) h = le-leb b a (ltb-false a b h)
 
@@ -245,7 +245,7 @@ module _ (P : Plan) (h : planNumber P ≡ 0) where
       let n = kindNumber (edgeAt P j .kind) in
       let e : sameEdge (edgeAt P i) f t n ≡ false = any-not (λ i. sameEdge (getD (P .edges) i noEdge) f t n) j i (entry-good (P .states) (P .edges) j (edgeAt P j) (entry j k) .2) h in
       let e′ : sameEdge (edgeAt P i) f t n ≡ true = rw (eq-eqb (edgeAt P i .from) f a, eq-eqb (edgeAt P i .to) t b, eq-eqb (kindNumber (edgeAt P i .kind)) n c) refl in
-      no-way (sym e ∙ e′)
+      clash (sym e ∙ e′)
 
   one-edge : (e e′ : ℕ) → e < P .edgecount → e′ < P .edgecount → edgeAt P e .from ≡ edgeAt P e′ .from → edgeAt P e .to ≡ edgeAt P e′ .to
       → kindNumber (edgeAt P e .kind) ≡ kindNumber (edgeAt P e′ .kind) → e ≡ e′

@@ -10,7 +10,7 @@ use native.Mathlib.Omega.{arith}
 use native.Mathlib.Decide.{decLe, ℕ-discrete}
 use lib.Dec.{leb, ltb, eqb}
 use borrow.Author.Tests.{ltb-true, ltb-false, leb-true, leb-false, eqb-true, lt-ltb, le-leb, eq-eqb}
-use lib.IntN.{ℤ, pos, _+ℤ_}
+use lib.IntN.{ℤ}
 use lib.Signed.{leZ, ≤ℤ-refl}
 use lib.ListN.{length}
 use Rattle.integers.specs.Rep.{nz, ltN}
@@ -21,7 +21,7 @@ use Rattle.model.specs.Segmentation.{Seg, first, next, readings, lastLev
 use Rattle.model.specs.Model.{edgeAt, labelAt, above, width, permits, inSet, onGrid, lastState, Follows, cost, need, changes, HoldsAt, KeepsLabels, Allowed, AllowedWhole, LeastCost, order, First}
 use Rattle.model.specs.Listed.{each, eachOf, everySeg, followsTest, holdsTest, allBelow, allowedTest, wholeTest, pointTest, keep, lowerTest, key, earlier, firstIn, listed, lowest, leastIn, listedCost}
 use Rattle.model.specs.Lists.{In, in-left, in-right}
-use Rattle.model.specs.Bools.{no-way, and-yes, yes-and}
+use Rattle.model.specs.Bools.{clash, and-yes, yes-and}
 use Rattle.model.specs.Grid.{grid-index, leZ-true, leZ-both}
 use Rattle.model.specs.Order.{lower-yes, lower-no, lower-trans, back-length, order-one}
 use Rattle.model.specs.Checked.{checked}
@@ -51,7 +51,7 @@ in-keep {A} t x (z ∷ xs) h p = go (t z) refl h (in-keep t x xs)
     go : (b : Bool) → t z ≡ b → (x ≡ z) ⊎ In x xs → (In x xs → t x ≡ true → In x (keep t xs)) → In x (cond b (z ∷ keep t xs) (keep t xs))
     go true e (inl q) ih = inl q
     go true e (inr q) ih = inr (ih q p)
-    go false e (inl q) ih = let w : _≡_ {A = Bool} true false = sym p ∙ ap t q ∙ e in no-way (sym w)
+    go false e (inl q) ih = let w : _≡_ {A = Bool} true false = sym p ∙ ap t q ∙ e in clash (sym w)
     go false e (inr q) ih = ih q p
 
 keep-in : {A : Type 0} (t : A → Bool) (x : A) (xs : List A) → In x (keep t xs) → t x ≡ true
@@ -71,16 +71,13 @@ module _ (P : Plan) (built : planNumber P ≡ 0) where
   unfolding everySeg readings Follows
   every-one zero (first s m) n f =
       let (h, e) = grid-index P m (f .1) in
-      in-each (first s m) (P .states) (λ s. each (width P) (λ j. first s (P .lo +ℤ pos j) ∷ [])) s (checked P built .starts s (f .0))
-      (in-each (first s m) (width P) (λ j. first s (P .lo +ℤ pos j) ∷ []) (above (P .lo) m) h (inl (ap (first s) (sym e))))
+      in-each (first s m) (P .states) _ s (checked P built .starts s (f .0)) (in-each (first s m) (width P) _ (above (P .lo) m) h (inl (ap (first s) (sym e))))
   every-one zero (next g e m) n f = absurd (omega (arith, readings-pos g))
   every-one (suc t) (first s m) n f = absurd (omega arith)
   every-one (suc t) (next g e m) n f =
       let (h, i) = grid-index P m (f .4) in
-      in-eachOf (next g e m) (everySeg P (suc t)) (λ g. each (P .edgecount) (λ e. each (width P) (λ j. next g e (P .lo +ℤ pos j) ∷ []))) g
-      (every-one t g (omega arith) (f .0))
-      (in-each (next g e m) (P .edgecount) (λ e. each (width P) (λ j. next g e (P .lo +ℤ pos j) ∷ [])) e (f .1)
-      (in-each (next g e m) (width P) (λ j. next g e (P .lo +ℤ pos j) ∷ []) (above (P .lo) m) h (inl (ap (next g e) (sym i)))))
+      in-eachOf (next g e m) (everySeg P (suc t)) _ g (every-one t g (omega arith) (f .0))
+      (in-each (next g e m) (P .edgecount) _ e (f .1) (in-each (next g e m) (width P) _ (above (P .lo) m) h (inl (ap (next g e) (sym i)))))
 
   -- every segmentation that keeps the edge rules of the plan is listed
   pub every-listed : (n : ℕ) (g : Seg) → readings g ≡ n → Follows P g → In g (everySeg P n)
@@ -153,14 +150,14 @@ module _ (P : Plan) (n : ℕ) (g : Seg) where
       record {
         count = eqb-true (readings g) n a;
         follows = test-follows P g b;
-        labels = λ i k. test-holds _ _ _ (all-yes (λ i. holdsTest (labelAt P i) (readings g) (changes P (labelAt P i) g)) (P .labelcount) i c k);
+        labels = λ i k. test-holds _ _ _ (all-yes _ (P .labelcount) i c k);
       }
 
   allowed-test : Allowed P n g → allowedTest P n g ≡ true
   unfolding allowedTest KeepsLabels
   allowed-test a =
       yes-and _ _ (eq-eqb _ _ (a .count)) (yes-and _ _ (follows-test P g (a .follows))
-      (yes-all (λ i. holdsTest (labelAt P i) (readings g) (changes P (labelAt P i) g)) (P .labelcount) (λ i k. holds-test _ _ _ (a .labels i k))))
+      (yes-all _ (P .labelcount) (λ i k. holds-test _ _ _ (a .labels i k))))
 
   test-whole : wholeTest P n g ≡ true → AllowedWhole P n g
   unfolding wholeTest
@@ -171,7 +168,7 @@ module _ (P : Plan) (n : ℕ) (g : Seg) where
       record {
         count = eqb-true (readings g) n a;
         follows = test-follows P g b;
-        labels = λ i k. eqb-true _ _ (all-yes (λ i. eqb (changes P (labelAt P i) g) (need (labelAt P i))) (P .labelcount) i c k);
+        labels = λ i k. eqb-true _ _ (all-yes _ (P .labelcount) i c k);
         ends = d;
       }
 
@@ -179,7 +176,7 @@ module _ (P : Plan) (n : ℕ) (g : Seg) where
   unfolding wholeTest
   whole-test a =
       yes-and _ _ (eq-eqb _ _ (a .count)) (yes-and _ _ (follows-test P g (a .follows))
-      (yes-and _ _ (yes-all (λ i. eqb (changes P (labelAt P i) g) (need (labelAt P i))) (P .labelcount) (λ i k. eq-eqb _ _ (a .labels i k))) (a .ends)))
+      (yes-and _ _ (yes-all _ (P .labelcount) (λ i k. eq-eqb _ _ (a .labels i k))) (a .ends)))
 
   module _ (s : ℕ) (m : ℤ) where
     test-point : pointTest P n s m g ≡ true → Allowed P n g × (lastState P g ≡ s) × (lastLevel g ≡ m)
@@ -253,8 +250,12 @@ module _ (P : Plan) (zs : List ℤ) (built : planNumber P ≡ 0) where
   abbrev n : ℕ
   n = length zs
 
-  kept : (g : Seg) → AllowedWhole P n g → In g (keep (wholeTest P n) (everySeg P n))
+  -- what is kept of the listing is what is allowed
+  pub kept : (g : Seg) → AllowedWhole P n g → In g (keep (wholeTest P n) (everySeg P n))
   kept g a = in-keep (wholeTest P n) g (everySeg P n) (every-listed P built n g (a .count) (a .follows)) (whole-test P n g a)
+
+  pub kept-allowed : (g : Seg) → In g (keep (wholeTest P n) (everySeg P n)) → AllowedWhole P n g
+  kept-allowed g h = test-whole P n g (keep-in (wholeTest P n) g (everySeg P n) h)
 
   cheap : (g g′ : Seg) → Before P zs g g′ → cost P zs g ≤ cost P zs g′
   unfolding key
@@ -272,9 +273,8 @@ module _ (P : Plan) (zs : List ℤ) (built : planNumber P ≡ 0) where
   unfolding listed
   listed-first g p =
       let gs = keep (wholeTest P n) (everySeg P n) in
-      let ok : (h : Seg) → In h gs → AllowedWhole P n h = λ h k. test-whole P n h (keep-in (wholeTest P n) h (everySeg P n) k) in
-      let (i, b) = first-in P zs n gs g (λ h k. let a = ok h k in (a .count, a .follows)) p in
-      record { allowed = ok g i; cheapest = λ g′ a. cheap g g′ (b g′ (kept g′ a)); before = λ g′ a. tie g g′ (b g′ (kept g′ a)) }
+      let (i, b) = first-in P zs n gs g (λ h k. let a = kept-allowed h k in (a .count, a .follows)) p in
+      record { allowed = kept-allowed g i; cheapest = λ g′ a. cheap g g′ (b g′ (kept g′ a)); before = λ g′ a. tie g g′ (b g′ (kept g′ a)) }
 
   pub listed-none : listed P zs ≡ none → (g : Seg) → AllowedWhole P n g → ⊥
   unfolding listed
@@ -313,15 +313,18 @@ module _ (P : Plan) (zs : List ℤ) (built : planNumber P ≡ 0) (s : ℕ) (m : 
   abbrev len : ℕ
   len = length zs
 
-  kept-point : (g : Seg) → Allowed P len g → lastState P g ≡ s → lastLevel g ≡ m → In g (keep (pointTest P len s m) (everySeg P len))
+  pub kept-point : (g : Seg) → Allowed P len g → lastState P g ≡ s → lastLevel g ≡ m → In g (keep (pointTest P len s m) (everySeg P len))
   kept-point g a p q =
       in-keep (pointTest P len s m) g (everySeg P len) (every-listed P built len g (a .count) (a .follows)) (point-test P len g s m a p q)
+
+  pub kept-point-allowed : (g : Seg) → In g (keep (pointTest P len s m) (everySeg P len)) → Allowed P len g × (lastState P g ≡ s) × (lastLevel g ≡ m)
+  kept-point-allowed g h = test-point P len g s m (keep-in (pointTest P len s m) g (everySeg P len) h)
 
   pub listed-least : (c : ℕ) → listedCost P zs s m ≡ some c → LeastCost P zs len s m c
   unfolding listedCost
   listed-least c p =
       let ((g, i, e), b) = least-in P zs (keep (pointTest P len s m) (everySeg P len)) c p in
-      let (a, ps, pm) = test-point P len g s m (keep-in (pointTest P len s m) g (everySeg P len) i) in
+      let (a, ps, pm) = kept-point-allowed g i in
       record { met = (g, a, ps, pm, e); least = λ g′ a′ p′ q′. b g′ (kept-point g′ a′ p′ q′) }
 
   pub listed-point-none : listedCost P zs s m ≡ none → (g : Seg) → Allowed P len g → lastState P g ≡ s → lastLevel g ≡ m → ⊥

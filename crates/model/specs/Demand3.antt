@@ -1,13 +1,14 @@
 -- What `resultOf` means: the third condition of acceptance of the scope paper (01), whose sentences are quoted. Allowed, cost and order are
 -- those of `Model`. Assumes nothing.
 use mathlib.Core.Path.{_≡_, refl, sym, _∙_, ap}
+use mathlib.Core.Logic.{_⊎_, inl, inr}
 use mathlib.Core.Option.{Option, none, some}
 use mathlib.Core.List.{List, []}
 use mathlib.Core.Bool.{Bool, true, false, cond}
 use Prim.Native.Nat.{ℕ, _≤_, _<_}
 use native.Mathlib.Omega.{arith}
 use lib.Dec.{eqb}
-use borrow.Author.Tests.{eqb-true, eq-eqb}
+use borrow.Author.Tests.{eqb-true, eq-eqb, ne-eqb}
 use lib.IntN.{ℤ, pos}
 use lib.ListN.{length, take}
 use lib.Seq.{getD-take, length-take-le}
@@ -39,6 +40,11 @@ pub record Demand3 (P : Plan) (zs : List ℤ) : Type 0 where
       → (pointNumber P (length zs) s m ≡ 0) × ((g : Seg) → Allowed P (length zs) g → lastState P g ≡ s → lastLevel g ≡ m → ⊥)
   pub 16-point : (s : ℕ) (m : ℤ) → pointNumber P (length zs) s m ≡ 0 → ((g : Seg) → Allowed P (length zs) g → lastState P g ≡ s → lastLevel g ≡ m → ⊥)
       → resultOf P zs (point s m) ≡ refused 16
+  -- an earlier refusal gives its number, and without one there is an answer or 16
+  pub whole-early : (n : ℕ) → searchNumber P (length zs) ≡ n → (n ≡ 0 → ⊥) → resultOf P zs whole ≡ refused n
+  pub whole-else : searchNumber P (length zs) ≡ 0 → ((c : ℕ) × (ns : List ℤ) × (resultOf P zs whole ≡ found c ns)) ⊎ (resultOf P zs whole ≡ refused 16)
+  pub point-early : (s : ℕ) (m : ℤ) (n : ℕ) → pointNumber P (length zs) s m ≡ n → (n ≡ 0 → ⊥) → resultOf P zs (point s m) ≡ refused n
+  pub point-else : (s : ℕ) (m : ℤ) → pointNumber P (length zs) s m ≡ 0 → ((c : ℕ) × (resultOf P zs (point s m) ≡ found c [])) ⊎ (resultOf P zs (point s m) ≡ refused 16)
   -- "A record stopped at a point is the list of its first n readings, for any n from 1 to its length."
   pub stopped : (n : ℕ) → n ≤ length zs → (s : ℕ) (m : ℤ) (c : ℕ)
       → (LeastCost P (take n zs) (length (take n zs)) s m c → LeastCost P zs n s m c) × (LeastCost P zs n s m c → LeastCost P (take n zs) (length (take n zs)) s m c)
@@ -48,6 +54,10 @@ pub record Demand3 (P : Plan) (zs : List ℤ) : Type 0 where
 pub unless-none : (n : ℕ) (r : Result) → n ≡ 0 → unless n r ≡ r
 unfolding unless
 unless-none n r h = rw (eq-eqb n 0 h) refl
+
+unless-some : (k : ℕ) (r : Result) (n : ℕ) → k ≡ n → (n ≡ 0 → ⊥) → unless k r ≡ refused n
+unfolding unless
+unless-some k r n e h = rw (e, ne-eqb n 0 h) refl
 
 unless-found : (n : ℕ) (r : Result) (c : ℕ) (ns : List ℤ) → unless n r ≡ found c ns → (n ≡ 0) × (r ≡ found c ns)
 unfolding unless
@@ -65,14 +75,15 @@ unless-refused n k r l h = go (eqb n 0) refl h
     go true e q = (eqb-true n 0 e, q)
     go false e q = let z : n ≡ k = cc in absurd (omega arith)
 
+loss-take : (zs : List ℤ) (n t : ℕ) (m : ℤ) → t < n → lossAt (take n zs) t m ≡ lossAt zs t m
+unfolding lossAt
+loss-take zs n t m h = ap (λ (z : ℤ). square z m) (getD-take n zs t (pos 0) h)
+
 -- a segmentation of at most n readings costs the same on the first n of zs
 cost-take : (P : Plan) (zs : List ℤ) (n : ℕ) (g : Seg) → readings g ≤ n → cost P (take n zs) g ≡ cost P zs g
-unfolding cost readings lossAt
-cost-take P zs n (first s m) h = ap (λ (z : ℤ). square z m) (getD-take n zs 0 (pos 0) h)
-cost-take P zs n (next g e m) h =
-    let a = cost-take P zs n g (omega arith) in
-    let b = ap (λ (z : ℤ). square z m) (getD-take n zs (readings g) (pos 0) h) in
-    rw (a, b) refl
+unfolding cost readings
+cost-take P zs n (first s m) h = loss-take zs n 0 m h
+cost-take P zs n (next g e m) h = rw (cost-take P zs n g (omega arith), loss-take zs n (readings g) m h) refl
 
 module _ (P : Plan) (zs : List ℤ) where
   seg-found : (o : Option Seg) (c : ℕ) (ns : List ℤ) → foundSeg P (priced P zs o) ≡ found c ns → (g : Seg) × (o ≡ some g) × (cost P zs g ≡ c) × (runNumbers P g ≡ ns)
@@ -90,6 +101,14 @@ module _ (P : Plan) (zs : List ℤ) where
   cost-none : (o : Option ℕ) → foundCost o ≡ refused 16 → o ≡ none
   cost-none none h = refl
   cost-none (some d) h = let z : _≡_ {A = ℕ} 0 1 = cc in absurd (omega arith)
+
+  seg-or-16 : (o : Option Seg) → ((c : ℕ) × (ns : List ℤ) × (foundSeg P (priced P zs o) ≡ found c ns)) ⊎ (foundSeg P (priced P zs o) ≡ refused 16)
+  seg-or-16 none = inr refl
+  seg-or-16 (some g) = inl (cost P zs g, runNumbers P g, refl)
+
+  cost-or-16 : (o : Option ℕ) → ((c : ℕ) × (foundCost o ≡ found c [])) ⊎ (foundCost o ≡ refused 16)
+  cost-or-16 none = inr refl
+  cost-or-16 (some c) = inl (c, refl)
 
   abbrev n₀ : ℕ
   n₀ = length zs
@@ -142,6 +161,10 @@ module _ (P : Plan) (zs : List ℤ) where
         let (h, q) = unless-refused (pointNumber P n₀ s m) 16 (foundCost (listedCost P zs s m)) (omega (arith, point-low P n₀ s m)) e in
         (h, listed-point-none P zs (built-point P n₀ s m h) s m (cost-none (listedCost P zs s m) q));
     16-point = λ s m h never. unless-none (pointNumber P n₀ s m) (foundCost (listedCost P zs s m)) h ∙ is-nowhere s m h never (listedCost P zs s m) refl;
+    whole-early = unless-some (searchNumber P n₀) (foundSeg P (listedAnswer P zs));
+    whole-else = λ h. rw (unless-none (searchNumber P n₀) (foundSeg P (listedAnswer P zs)) h) (seg-or-16 (listed P zs));
+    point-early = λ s m. unless-some (pointNumber P n₀ s m) (foundCost (listedCost P zs s m));
+    point-else = λ s m h. rw (unless-none (pointNumber P n₀ s m) (foundCost (listedCost P zs s m)) h) (cost-or-16 (listedCost P zs s m));
     stopped = λ n h s m c. rw (length-take-le n zs h) (
       least-same n s m c (take n zs) zs (λ g e. cost-take P zs n g (omega arith)),
       least-same n s m c zs (take n zs) (λ g e. sym (cost-take P zs n g (omega arith))),

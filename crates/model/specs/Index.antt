@@ -1,5 +1,8 @@
--- What one edge makes of a function of the level, by the level's index above lo, as code holds it. Assumes nothing.
-use mathlib.Core.Path.{_≡_, refl, sym, _∙_, ap, subst}
+-- What one edge makes of a function of the level, by the level's index above lo. Stay is the function itself, any the least value, up and down
+-- the running minimum moved by the gap, abs the lesser of both. What code has to show: its list has at each index the value `edgeMin`, or it
+-- looked at the permitted indices and has `edge-min-is` or `edge-min-none`. `permits-index` and `edge-min` make of it the least over the levels
+-- that the model permits. Assumes nothing.
+use mathlib.Core.Path.{_≡_, refl, sym, _∙_, ap}
 use mathlib.Core.Logic.{_⊎_, inl, inr}
 use mathlib.Core.Option.{Option, none, some, Option·some-injective}
 use mathlib.Core.Bool.{Bool, true, false, _&&_, cond}
@@ -12,14 +15,12 @@ use lib.IntN.{ℤ, pos, natAbs, _+ℤ_, _-ℤ_}
 use lib.Signed.{leZ, leZ-yes}
 use Rattle.integers.specs.Rep as R
 use Rattle.integers.specs.Rep.{Rep, iz, nz, _⊕_, _⊖_, eqZ, leN, leZof, holds}
-use Rattle.plan.specs.declared.Plan.{Plan}
 use Rattle.plan.specs.declared.Kind.{Kind}
 use Rattle.plan.specs.declared.Kind.the-variants.{Stay, Any, Up, Down, Abs}
-use Rattle.model.specs.Cost.{Cost, _≼_}
+use Rattle.model.specs.Cost.{Cost}
 use Rattle.model.specs.Bools.{and-yes, same-test}
-use Rattle.model.specs.Grid.{leZ-true, abs-is, le-index, above-index, grid-index, index-grid}
-use Rattle.model.specs.Model.{above, width, permits, onGrid}
-use Rattle.model.specs.Edges.{MinOver}
+use Rattle.model.specs.Grid.{leZ-true, abs-is, le-index}
+use Rattle.model.specs.Model.{above, permits}
 
 -- ---- what code holds
 
@@ -29,10 +30,6 @@ noCost = 2 ^ 60
 
 unfoldable pub held : ℕ → Option Cost
 held v = cond (ltb v noCost) (some v) none
-
--- a function of the index as one of the level
-unfoldable pub onLevels : Plan → (ℕ → ℕ) → ℤ → Option Cost
-onLevels P f m = cond (onGrid P m) (held (f (above (P .lo) m))) none
 
 -- from index i to the next index j
 unfoldable pub permitsAt : Kind → ℕ → ℕ → Bool
@@ -119,44 +116,6 @@ some-held v h = rw (lt-ltb v noCost h)
 pub none-held : (v : ℕ) → noCost ≤ v → held v ≡ none
 unfolding held
 none-held v h = rw (le-ltb v noCost h)
-
-module _ (P : Plan) where
-  pub at-index : (f : ℕ → ℕ) → leZ (P .lo) (P .hi) ≡ true → (i : ℕ) → i < width P → onLevels P f (P .lo +ℤ pos i) ≡ held (f i)
-  unfolding onLevels
-  at-index f g i h = rw (index-grid P g i h, above-index (P .lo) i)
-
-  pub at-level : (f : ℕ → ℕ) (m : ℤ) → onGrid P m ≡ true → onLevels P f m ≡ held (f (above (P .lo) m))
-  unfolding onLevels
-  at-level f m h = rw h
-
-  on-levels : (f : ℕ → ℕ) (m : ℤ) (d : Cost) → onLevels P f m ≡ some d → (onGrid P m ≡ true) × (f (above (P .lo) m) < noCost) × (f (above (P .lo) m) ≡ d)
-  unfolding onLevels
-  on-levels f m d p = go (onGrid P m) refl p
-    where
-      go : (b : Bool) → onGrid P m ≡ b → cond b (held (f (above (P .lo) m))) none ≡ some d → (onGrid P m ≡ true) × (f (above (P .lo) m) < noCost) × (f (above (P .lo) m) ≡ d)
-      go true e q = let (h, k) = held-some (f (above (P .lo) m)) d q in (e, h, k)
-      go false e q = let z : _≡_ {A = ℕ} 0 1 = cc in absurd (omega arith)
-
-  -- what is shown of indices holds of levels
-  pub min-levels : leZ (P .lo) (P .hi) ≡ true → (k : Kind) (f r : ℕ → ℕ) → MinAt (width P) k f r → MinOver P k (onLevels P f) (onLevels P r)
-  min-levels g k f r x = record { met = met; least = low }
-    where
-      met : (m′ : ℤ) (d : Cost) → onGrid P m′ ≡ true → onLevels P r m′ ≡ some d → (m : ℤ) × (permits k m m′ ≡ true) × (onLevels P f m ≡ some d)
-      met m′ d on p =
-          let (h, e) = grid-index P m′ on in
-          let (on′, l, v) = on-levels r m′ d p in
-          let (i, hi, a, w) = x .met (above (P .lo) m′) h l in
-          let q : permits k (P .lo +ℤ pos i) m′ ≡ true = subst (λ (y : ℤ). permits k (P .lo +ℤ pos i) y ≡ true) e (permits-index k (P .lo) i (above (P .lo) m′) ∙ a) in
-          (P .lo +ℤ pos i, q, at-index f g i hi ∙ some-held (f i) (omega arith) ∙ ap some (w ∙ v))
-
-      low : (m m′ : ℤ) (d : Cost) → onGrid P m′ ≡ true → permits k m m′ ≡ true → onLevels P f m ≡ some d → (c : Cost) × (onLevels P r m′ ≡ some c) × (c ≼ d)
-      low m m′ d on a p =
-          let (h, e) = grid-index P m′ on in
-          let (on′, l, v) = on-levels f m d p in
-          let (h′, e′) = grid-index P m on′ in
-          let b : permits k (P .lo +ℤ pos (above (P .lo) m)) (P .lo +ℤ pos (above (P .lo) m′)) ≡ true = rw (e, e′) a in
-          let q = x .least (above (P .lo) m) (above (P .lo) m′) h′ h (sym (permits-index k (P .lo) (above (P .lo) m) (above (P .lo) m′)) ∙ b) l in
-          (r (above (P .lo) m′), at-level r m′ on ∙ some-held (r (above (P .lo) m′)) (omega arith), record { le = omega arith })
 
 -- ---- prefix and suffix minima
 

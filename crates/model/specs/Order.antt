@@ -13,7 +13,7 @@ use Rattle.plan.specs.declared.Plan.{Plan}
 use Rattle.model.specs.Segmentation.{Seg, first, next, readings, lastLevel, back, Lower, readings-pos}
 use Rattle.model.specs.Model.{edgeAt, lastState, Follows, order, First}
 use Rattle.model.specs.Listed.{lowerTest}
-use Rattle.model.specs.Bools.{no-way}
+use Rattle.model.specs.Bools.{clash}
 
 -- neither is lower
 ltZ-neither : (x y : ℤ) → ltZ x y ≡ false → ltZ y x ≡ false → x ≡ y
@@ -21,13 +21,13 @@ ltZ-neither x y p q = eqZ (iz x) (iz y) (omega (arith, leN (iz y) (iz x) (ltZ-no
 
 pub lower-yes : (xs ys : List ℤ) → lowerTest xs ys ≡ true → Lower xs ys
 unfolding lowerTest
-lower-yes [] ys h = no-way h
-lower-yes (x ∷ xs) [] h = no-way h
+lower-yes [] ys h = clash h
+lower-yes (x ∷ xs) [] h = clash h
 lower-yes (x ∷ xs) (y ∷ ys) h = go (ltZ x y) (ltZ y x) refl refl h (lower-yes xs ys)
   where
     go : (b c : Bool) → ltZ x y ≡ b → ltZ y x ≡ c → cond b true (cond c false (lowerTest xs ys)) ≡ true → (lowerTest xs ys ≡ true → Lower xs ys) → (x <ℤ y) ⊎ ((x ≡ y) × Lower xs ys)
     go true c p q r ih = inl (ltZ-yes (holds p))
-    go false true p q r ih = no-way r
+    go false true p q r ih = clash r
     go false false p q r ih = inr (ltZ-neither x y p q, ih r)
 
 pub lower-no : (xs ys : List ℤ) → length xs ≡ length ys → lowerTest xs ys ≡ false → (xs ≡ ys) ⊎ Lower ys xs
@@ -43,7 +43,7 @@ lower-no (x ∷ xs) (y ∷ ys) n h = go (ltZ x y) (ltZ y x) refl refl h (lower-n
 
     go : (b c : Bool) → ltZ x y ≡ b → ltZ y x ≡ c → cond b true (cond c false (lowerTest xs ys)) ≡ false → (lowerTest xs ys ≡ false → (xs ≡ ys) ⊎ Lower ys xs)
         → (_≡_ {A = List ℤ} (x ∷ xs) (y ∷ ys)) ⊎ ((y <ℤ x) ⊎ ((y ≡ x) × Lower ys xs))
-    go true c p q r ih = no-way (sym r)
+    go true c p q r ih = clash (sym r)
     go false true p q r ih = inr (inl (ltZ-yes (holds q)))
     go false false p q r ih = rest (ltZ-neither x y p q) (ih r)
 

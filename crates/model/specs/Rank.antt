@@ -8,14 +8,14 @@ use lib.IntN.{ℤ}
 use lib.ListN.{length}
 use Rattle.plan.specs.declared.Plan.{Plan}
 use Rattle.model.specs.Segmentation.{Seg, first, next, readings, Lower}
-use Rattle.model.specs.Model.{edgeAt, changeOf, penalty, lossAt, cost, AllowedWhole, order, First}
+use Rattle.model.specs.Model.{edgeAt, changeOf, penaltyOf, lossAt, cost, AllowedWhole, order, First}
 use Rattle.model.specs.Cost.{Cost, _⊕_, _≼_, costOf, value, value-of, value-add, value-mono, value-back}
 
 unfoldable pub firstCost : List ℤ → ℤ → Cost
 firstCost zs m = costOf (lossAt zs 0 m) 0
 
 unfoldable pub stepCost : Plan → List ℤ → ℕ → ℕ → ℤ → Cost
-stepCost P zs t e m = costOf (penalty (edgeAt P e .class) + lossAt zs t m) (changeOf (edgeAt P e .kind))
+stepCost P zs t e m = costOf (penaltyOf P e + lossAt zs t m) (changeOf (edgeAt P e .kind))
 
 unfoldable pub rank : Plan → List ℤ → Seg → Cost
 rank P zs (first s m) = firstCost zs m
@@ -24,7 +24,7 @@ rank P zs (next g e m) = rank P zs g ⊕ stepCost P zs (readings g) e m
 pub rank-value : (P : Plan) (zs : List ℤ) (g : Seg) → value (rank P zs g) ≡ cost P zs g
 unfolding rank cost firstCost stepCost
 rank-value P zs (first s m) = value-of _ _
-rank-value P zs (next g e m) = value-add _ _ _ ∙ ap (λ x. x + (penalty (edgeAt P e .class) + lossAt zs (readings g) m)) (rank-value P zs g)
+rank-value P zs (next g e m) = value-add _ _ _ ∙ ap (λ x. x + (penaltyOf P e + lossAt zs (readings g) m)) (rank-value P zs g)
 
 pub first-by-rank : (P : Plan) (zs : List ℤ) (g : Seg) → AllowedWhole P (length zs) g
     → ((g′ : Seg) → AllowedWhole P (length zs) g′ → rank P zs g ≼ rank P zs g′)

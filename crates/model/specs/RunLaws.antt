@@ -2,24 +2,25 @@
 -- (`reading-run`, `run-of`); and it determines the segmentation (`runs-one`). Assumes nothing.
 use mathlib.Core.Path.{_≡_, refl, sym, _∙_, ap, subst}
 use mathlib.Core.Logic.{_⊎_, inl, inr}
-use mathlib.Core.List.{List, [], _∷_, reverse, reverseAux, reverse-reverse}
+use mathlib.Core.List.{List, [], _∷_, _++_, append-assoc, reverse, reverseAux, reverse-reverse}
 use mathlib.Core.Bool.{Bool, true, false, cond}
-use Prim.Native.Nat.{ℕ, suc, _≤_, _<_}
+use Prim.Native.Nat.{ℕ, zero, suc, _+_, _*_, _≤_, _<_}
 use native.Mathlib.Omega.{arith}
 use native.Mathlib.Decide.{ℕ-discrete, decLt}
 use lib.Dec.{ltb, eqb}
 use borrow.Author.Tests.{ltb-false, lt-ltb, le-ltb, eqb-true}
-use lib.IntN.{ℤ}
+use lib.IntN.{ℤ, pos}
 use lib.Signed.{leZ}
-use lib.ListN.{length}
+use lib.ListN.{length, getD, length-append, List·getD-append}
+use lib.Seq.{getD-append-add}
 use Rattle.plan.specs.declared.Plan.{Plan}
 use Rattle.plan.specs.declared.Kind.{Kind}
 use Rattle.plan.specs.declared.Kind.the-variants.{Stay, Any, Up, Down, Abs}
 use Rattle.plan.specs.Build.{kindNumber, planNumber}
 use Rattle.model.specs.Segmentation.{Seg, first, next, readings, lastLevel, readings-pos}
 use Rattle.model.specs.Model.{edgeAt, onGrid, permits, lastState, Follows}
-use Rattle.model.specs.Run.{Run, run, isStay, joins, backFrom, runs, numbers, runNumbers}
-use Rattle.model.specs.Bools.{no-way, and-yes}
+use Rattle.model.specs.Run.{Run, run, isStay, joins, backFrom, runs, five, numbers, runNumbers}
+use Rattle.model.specs.Bools.{clash, and-yes}
 use Rattle.model.specs.Grid.{leZ-both}
 use Rattle.model.specs.Lists.{In, in-reverse}
 use Rattle.model.specs.Checked.{Checked, checked}
@@ -114,10 +115,10 @@ prefix-twice a b (next g e m) h = go (ltb (readings g) b) refl (prefix-twice a b
 stay-level : (k : Kind) (m m′ : ℤ) → isStay k ≡ true → permits k m m′ ≡ true → m ≡ m′
 unfolding isStay permits
 stay-level Stay m m′ h p = let (a, b) = and-yes (leZ m m′) (leZ m′ m) p in leZ-both m m′ a b
-stay-level Any m m′ h p = no-way h
-stay-level (Up gap) m m′ h p = no-way h
-stay-level (Down gap) m m′ h p = no-way h
-stay-level (Abs gap) m m′ h p = no-way h
+stay-level Any m m′ h p = clash h
+stay-level (Up gap) m m′ h p = clash h
+stay-level (Down gap) m m′ h p = clash h
+stay-level (Abs gap) m m′ h p = clash h
 
 -- an edge that joins keeps state and level
 joins-keeps : (P : Plan) (g : Seg) (e : ℕ) (m : ℤ) → Follows P (next g e m) → joins (edgeAt P e) ≡ true → (edgeAt P e .to ≡ lastState P g) × (m ≡ lastLevel g)
@@ -214,10 +215,10 @@ module _ (P : Plan) where
 stay-number : (k : Kind) → isStay k ≡ true → kindNumber k ≡ 0
 unfolding isStay
 stay-number Stay h = refl
-stay-number Any h = no-way h
-stay-number (Up gap) h = no-way h
-stay-number (Down gap) h = no-way h
-stay-number (Abs gap) h = no-way h
+stay-number Any h = clash h
+stay-number (Up gap) h = clash h
+stay-number (Down gap) h = clash h
+stay-number (Abs gap) h = clash h
 
 module _ (P : Plan) (ch : Checked P) where
   -- two edges that join in one state are one
@@ -291,6 +292,29 @@ module _ (P : Plan) (ch : Checked P) where
           let x : e ≡ e′ = ap (λ (x : Run). x .edge) h in
           let y : m ≡ m′ = ap (λ (x : Run). x .level) h in
           cc
+
+-- ---- the numbers of the runs, five each
+
+pub numbers-length : (rs : List Run) → length (numbers rs) ≡ 5 * length rs
+unfolding numbers
+numbers-length [] = refl
+numbers-length (r ∷ rs) = omega (arith, length-append (five r) (numbers rs), numbers-length rs)
+
+pub numbers-append : (rs rs′ : List Run) → numbers (rs ++ rs′) ≡ numbers rs ++ numbers rs′
+unfolding numbers
+numbers-append [] rs′ = refl
+numbers-append (r ∷ rs) rs′ = ap (λ (x : List ℤ). five r ++ x) (numbers-append rs rs′) ∙ sym (append-assoc (five r) (numbers rs) (numbers rs′))
+
+-- number f of run i
+pub numbers-get : (rs : List Run) (i f : ℕ) (r : Run) → i < length rs → f < 5 → getD (numbers rs) (5 * i + f) (pos 0) ≡ getD (five (getD rs i r)) f (pos 0)
+unfolding numbers
+numbers-get [] i f r h k = absurd (omega arith)
+numbers-get (x ∷ rs) zero f r h k =
+    let e : 5 * 0 + f ≡ f = omega arith in
+    rw e (List·getD-append (five x) (numbers rs) (pos 0) f k)
+numbers-get (x ∷ rs) (suc i) f r h k =
+    let e : 5 * suc i + f ≡ length (five x) + (5 * i + f) = omega arith in
+    rw e (getD-append-add (five x) (numbers rs) (5 * i + f) (pos 0) ∙ numbers-get rs i f r (omega arith) k)
 
 numbers-one : (rs rs′ : List Run) → numbers rs ≡ numbers rs′ → rs ≡ rs′
 unfolding numbers
