@@ -13,7 +13,7 @@ use Rattle.plan.specs.declared.Label.{Label}
 use Rattle.model.specs.Model.{penalty}
 use Rattle.model.specs.Labels.{countBefore}
 use Rattle.model.specs.Index.{noCost}
-use Rattle.model.specs.Held.{penaltyMost, penalty-low, Table, minBelow}
+use Rattle.model.specs.Held.{penaltyMost, penalty-most, Table, minBelow}
 use Rattle.labels.specs.Boundary.{leadsFrom}
 use Rattle.curve.specs.Pieces.{piece}
 use Rattle.curve.specs.Lows.{costs}
@@ -69,11 +69,11 @@ module _ (o : Option Label) (t : ℕ) (es : List Edge) (k s cur : ℕ) (g : Shap
       gap = a .gap i h;
       ready = λ l. record {
         hand = subst (λ (z : ℕ). Hand r (source o t (edgeOf es i) k cur g) (g .levels) z) (sym (m .spared .size)) (hand-order (m .order) (a .hand i h l));
-        low = omega (arith, penalty-low (edgeOf es i .class));
+        low = omega (arith, penalty-most (edgeOf es i .class));
         some = a .some;
         limits = a .limits;
         acc = acc-sound;
-        from = curve-costs (curve-wider 1048576 (18014398509481984 - penalty (edgeOf es i .class)) (omega arith) (omega (arith, penalty-low (edgeOf es i .class))) (source-kept i h l (a .sound i h l)));
+        from = curve-costs (curve-wider 1048576 (18014398509481984 - penalty (edgeOf es i .class)) (omega arith) (omega (arith, penalty-most (edgeOf es i .class))) (source-kept i h l (a .sound i h l)));
       };
     }
 

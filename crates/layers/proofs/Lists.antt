@@ -13,13 +13,14 @@ use Rattle.plan.specs.declared.Plan.{Plan}
 use Rattle.plan.specs.declared.Label.{Label}
 use Rattle.model.specs.Model.{width}
 use Rattle.model.specs.Labels.{labelOn, counts}
+use Rattle.model.specs.Ends.{tableAt}
 use Rattle.curve.specs.Pieces.{Apart}
 use Rattle.curve.specs.Lists.{count-most}
 use Rattle.curve.specs.Curve.{Curve, curve-same}
 use Rattle.layer.specs.Edge.{Off}
 use Rattle.layers.specs.declared.Shape.{Shape}
 use Rattle.layers.specs.Layer.{stepMost, baseOf, listAt, ShapeOf, Layer}
-use Rattle.layers.specs.Next.{Task, layerWords, Beside, NextReady, NextList, Lists, One, OfCount, Counts, StepReady, Stepped}
+use Rattle.layers.specs.Next.{Task, layerWords, Beside, NextReady, NextList, Lists, One, OfCount, Counts, StepReady, Stepped, FirstReady, StartReady}
 use Rattle.layers.proofs.Next.{list-within}
 
 -- ---- places
@@ -67,7 +68,7 @@ module _ (P : Plan) (zs : List ℤ) (t o free : ℕ) where
     list = λ k s. ⊎-elim (λ q. first k s q) (λ r. w .list k s r);
   }
     where
-      first : (k s : ℕ) → Q k s → Curve t (t * stepMost) (baseOf P) (width P) ws″ (listAt o (P .states) (width P) k s) _
+      first : (k s : ℕ) → Q k s → Curve t (t * stepMost) (baseOf P) (width P) ws″ (listAt o (P .states) (width P) k s) (tableAt P zs t k s)
       first k s q =
           let b = list-within o (P .states) (width P) k s (hq k s q .0) (hq k s q .1) in
           kept-list (w .size)
@@ -101,22 +102,39 @@ module _ {P : Plan} {zs : List ℤ} {t cur next free : ℕ} {g : Shape} {ws : Li
         apart = ⊎-elim (λ q. inl (omega arith)) (λ q. inr (omega arith)) (a .apart);
         below = a .below; under = omega (arith, a .under); room = a .room; place = a .place }
 
+module _ {P : Plan} {zs : List ℤ} (t o free : ℕ) (under : o + layerWords P ≤ free) {ws ws′ ws″ : List ℕ} where
   -- one list more of a count
-  pub count-more : {ws′ ws″ : List ℕ} {k n : ℕ} → k < counts → n < P .states → Lists (OfCount k n) P zs (suc t) next free ws ws′ → NextList P zs t (listAt next (P .states) (width P) k n) free k n ws′ ws″
-      → Lists (OfCount k (n + 1)) P zs (suc t) next free ws ws″
-  count-more {ws′} {ws″} {k} {n} hk hn m w =
-      lists-as P zs (suc t) next free (OfCount k (n + 1)) (λ k′ s′. ⊎-elim (λ q. (q .0, omega (arith, q .1))) (λ q. (q .0, omega (arith, q .1)))) (λ k′ s′ q. ⊎-elim (λ p. inr (q .0, omega (arith, q .1))) (λ p. inl (q .0, p)) (le-or-lt n s′))
-      (both-lists P zs (suc t) next free (a .under) (λ k′ s′ q. (omega (arith, q .0), omega (arith, q .1))) (λ k′ s′ q. omega (arith, q .1)) (λ k′ s′ p q. omega (arith, p .1, q .1)) m (one-list P zs (suc t) next free t refl w))
+  pub count-more : {k n : ℕ} → k < counts → n < P .states → Lists (OfCount k n) P zs (suc t) o free ws ws′ → NextList P zs t (listAt o (P .states) (width P) k n) free k n ws′ ws″
+      → Lists (OfCount k (n + 1)) P zs (suc t) o free ws ws″
+  count-more {k} {n} hk hn m w =
+      lists-as P zs (suc t) o free (OfCount k (n + 1)) (λ k′ s′. ⊎-elim (λ q. (q .0, omega (arith, q .1))) (λ q. (q .0, omega (arith, q .1)))) (λ k′ s′ q. ⊎-elim (λ p. inr (q .0, omega (arith, q .1))) (λ p. inl (q .0, p)) (le-or-lt n s′))
+      (both-lists P zs (suc t) o free under (λ k′ s′ q. (omega (arith, q .0), omega (arith, q .1))) (λ k′ s′ q. omega (arith, q .1)) (λ k′ s′ p q. omega (arith, p .1, q .1)) m (one-list P zs (suc t) o free t refl w))
 
   -- one count more
-  pub counts-more : {ws′ ws″ : List ℕ} {n : ℕ} → n < counts → Lists (Counts P n) P zs (suc t) next free ws ws′ → Lists (OfCount n (P .states)) P zs (suc t) next free ws′ ws″ → Lists (Counts P (n + 1)) P zs (suc t) next free ws ws″
-  counts-more {ws′} {ws″} {n} hn m w =
-      lists-as P zs (suc t) next free (Counts P (n + 1)) (λ k′ s′. ⊎-elim (λ q. (omega (arith, q .0), q .1)) (λ q. (omega (arith, q .0), q .1))) (λ k′ s′ q. ⊎-elim (λ p. inr (omega (arith, q .0), q .1)) (λ p. inl (p, q .1)) (le-or-lt n k′))
-      (both-lists P zs (suc t) next free (a .under) (λ k′ s′ q. (omega (arith, q .0), q .1)) (λ k′ s′ q. q .1) (λ k′ s′ p q. omega (arith, p .0, q .0)) m w)
+  pub counts-more : {n : ℕ} → n < counts → Lists (Counts P n) P zs (suc t) o free ws ws′ → Lists (OfCount n (P .states)) P zs (suc t) o free ws′ ws″ → Lists (Counts P (n + 1)) P zs (suc t) o free ws ws″
+  counts-more {n} hn m w =
+      lists-as P zs (suc t) o free (Counts P (n + 1)) (λ k′ s′. ⊎-elim (λ q. (omega (arith, q .0), q .1)) (λ q. (omega (arith, q .0), q .1))) (λ k′ s′ q. ⊎-elim (λ p. inr (omega (arith, q .0), q .1)) (λ p. inl (p, q .1)) (le-or-lt n k′))
+      (both-lists P zs (suc t) o free under (λ k′ s′ q. (omega (arith, q .0), q .1)) (λ k′ s′ q. q .1) (λ k′ s′ p q. omega (arith, p .0, q .0)) m w)
 
-  pub stepped : {ws′ : List ℕ} → Lists (Counts P counts) P zs (suc t) next free ws ws′ → Stepped P zs (suc t) next free ws ws′
-  stepped m = record {
-    size = m .size;
-    word = λ i f. m .word i (λ k s q. let b = list-within next (P .states) (width P) k s (q .0) (q .1) in ⊎-elim (λ h. inl (omega arith)) (λ h. inr (omega arith)) f);
-    layer = record { list = λ k s hk hs. m .list k s (hk, hs) };
-  }
+pub stepped : {P : Plan} {zs : List ℤ} {t o free n : ℕ} {ws ws′ : List ℕ} → n ≡ counts → Lists (Counts P n) P zs t o free ws ws′ → Stepped P zs t o free ws ws′
+stepped {P} {zs} {t} {o} {free} {n} {ws} {ws′} e m = record {
+  size = m .size;
+  word = λ i f. m .word i (λ k s q. let b = list-within o (P .states) (width P) k s (omega (arith, q .0)) (q .1) in ⊎-elim (λ h. inl (omega arith)) (λ h. inr (omega arith)) f);
+  layer = record { list = λ k s hk hs. m .list k s (omega arith, hs) };
+}
+
+module _ {P : Plan} {zs : List ℤ} {o free : ℕ} {g : Shape} {ws : List ℕ} (a : StartReady P zs o free g ws) where
+  pub still-start : {Q : ℕ → ℕ → Type 0} {t : ℕ} {ws′ : List ℕ} → Lists Q P zs t o free ws ws′ → StartReady P zs o free g ws′
+  still-start m = record { task = a .task; more = a .more; under = a .under; room = omega (arith, a .room, m .size); place = a .place }
+
+  pub first-list-ready : {k s : ℕ} → k < counts → s < P .states → (dst : ℕ) → dst ≡ listAt o (P .states) (width P) k s → FirstReady P zs dst free k s g ws
+  first-list-ready {k} {s} hk hs dst d =
+      let b = list-within o (P .states) (width P) k s hk hs in
+      record { task = a .task; more = a .more; state = hs; under = omega (arith, a .under); room = a .room }
+
+pub count-all : {P : Plan} {zs : List ℤ} {t o free k n m : ℕ} {ws ws′ : List ℕ} → n ≡ m → Lists (OfCount k n) P zs t o free ws ws′ → Lists (OfCount k m) P zs t o free ws ws′
+count-all {P} {zs} {t} {o} {free} {k} {n} {m} {ws} {ws′} e l = subst (λ (x : ℕ). Lists (OfCount k x) P zs t o free ws ws′) e l
+
+-- a list made at the place that code computed
+pub made-at : {P : Plan} {zs : List ℤ} {t dst dst′ free k s : ℕ} {ws ws′ : List ℕ} → dst ≡ dst′ → NextList P zs t dst free k s ws ws′ → NextList P zs t dst′ free k s ws ws′
+made-at {P} {zs} {t} {dst} {dst′} {free} {k} {s} {ws} {ws′} e m = subst (λ (x : ℕ). NextList P zs t x free k s ws ws′) e m

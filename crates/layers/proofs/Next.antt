@@ -3,7 +3,9 @@ use mathlib.Core.Path.{_≡_, refl, sym, _∙_, ap, subst}
 use mathlib.Core.List.{List}
 use mathlib.Core.Option.{Option}
 use mathlib.Core.Logic.{_⊎_, inl, inr, ⊎-elim}
-use mathlib.Core.Bool.{true}
+use mathlib.Core.Bool.{Bool, true, false, _&&_, cond}
+use lib.Dec.{eqb, ltb}
+use borrow.Author.Tests.{eq-eqb, ne-eqb}
 use Prim.Native.Nat.{ℕ, zero, suc, _+_, _-_, _*_, _^_, _≤_, _<_, min}
 use native.Mathlib.Omega.{arith}
 use native.Mathlib.Nat.{mul-le-mul-right}
@@ -15,11 +17,11 @@ use mir.Syntax.{w16}
 use mir.Val.{SFits, toZ, ofZ, hbits}
 use Rattle.plan.specs.declared.Plan.{Plan}
 use Rattle.plan.specs.declared.Label.{Label}
-use Rattle.model.specs.Model.{width, edgeAt, lossAt}
+use Rattle.model.specs.Model.{width, edgeAt, lossAt, inSet}
 use Rattle.model.specs.Labels.{labelOn, counts, countBefore}
 use Rattle.model.specs.Held.{fromCount}
 use Rattle.model.specs.Index.{noCost}
-use Rattle.model.specs.Held.{raise, penaltyMost, Table, Holding, minBelow, min-none, byEdge, leadsAt, leads-count, nextTable}
+use Rattle.model.specs.Held.{raise, penaltyMost, Table, Holding, minBelow, min-none, byEdge, leadsAt, leads-count, firstTable, nextTable}
 use Rattle.model.specs.Ends.{lossMost, tableAt, table-holding, room}
 use Rattle.labels.specs.Boundary.{leadsFrom, leads-at}
 use Rattle.quadratic.specs.Quad.{none, flat}
@@ -31,7 +33,7 @@ use Rattle.layer.specs.Edge.{Hand, Order, Spared, Sound, Off, WithLoss, loss-pl
 use Rattle.layers.specs.declared.Shape.{Shape}
 use Rattle.layers.specs.Layer.{stepMost, baseOf, listAt, Shape-small, ShapeOf, Layer}
 use Rattle.layers.specs.Step.{source, offered, offered-by, edgeOf, leastOffered, EdgesReady, TookEdges}
-use Rattle.layers.specs.Next.{Task, layerWords, Beside, NextReady, NextList}
+use Rattle.layers.specs.Next.{Task, layerWords, Beside, NextReady, NextList, FirstReady, firstCost}
 
 -- a list lies within its layer
 pub list-within : (o S L k s : ℕ) → k < counts → s < S → (o ≤ listAt o S L k s) × (listAt o S L k s + 4 * L ≤ o + 8 * (S * L))
@@ -82,6 +84,10 @@ module _ {P : Plan} {zs : List ℤ} {g : Shape} (a : Task P zs g) where
 
   pub leads-low : (t e k s : ℕ) → 1 ≤ t → t ≤ 4096 → leadsAt P t e k s ≡ true → fromCount P t e k < counts
   leads-low t e k s h m l = leads-count P zs (a .checked) lossMost (a .losses) t h (tableAt P zs t) (holding t h m) (room t m) e k s l
+
+  -- a list's place, by the shape
+  pub list-is : (o k s : ℕ) {d : ℕ} → d ≡ listAt o (g .states) (g .levels) k s → d ≡ listAt o (P .states) (width P) k s
+  list-is o k s e = e ∙ ap (λ (x : ℕ). listAt o x (g .levels) k s) (a .shape .states) ∙ ap (λ (x : ℕ). listAt o (P .states) x k s) (a .shape .levels)
 
   -- the base is the place of the lowest level
   pub base-place : pos (g .base) ≡ P .lo +ℤ pos 163840
@@ -215,3 +221,62 @@ module _ {P : Plan} {zs : List ℤ} {o : Option Label} {t cur dst free k s : ℕ
 
         pub next-list : NextList P zs t dst free k s ws w3
         next-list = record { beside = besides; list = next-curve }
+
+-- ---- the first layer
+
+module _ (P : Plan) (k s : ℕ) where
+  pub first-not : (k ≡ 0 → ⊥) → noCost ≡ firstCost P k s
+  unfolding firstCost
+  first-not h = rw (ne-eqb k 0 h) (go (inSet (P .start) s))
+    where
+      go : (b : Bool) → noCost ≡ cond (b && false) 0 noCost
+      go true = refl
+      go false = refl
+
+  pub first-in : inSet (P .start) s ≡ true → k ≡ 0 → 0 ≡ firstCost P k s
+  unfolding firstCost
+  first-in e h = rw (eq-eqb k 0 h, e) refl
+
+  pub first-out : inSet (P .start) s ≡ false → k ≡ 0 → noCost ≡ firstCost P k s
+  unfolding firstCost
+  first-out e h = rw (eq-eqb k 0 h, e) refl
+
+module _ {P : Plan} {zs : List ℤ} {dst free k s : ℕ} {g : Shape} {ws : List ℕ} (a : FirstReady P zs dst free k s g ws) (c : ℕ) (is : c ≡ firstCost P k s) {w1 : List ℕ} (m1 : Made (λ (j : ℕ). flat c) ws w1 free (g .levels)) where
+  acc-first : Curve 0 1 (g .base) (g .levels) w1 free (λ (j : ℕ). c)
+  unfolding firstCost
+  acc-first = curve-flat (go (inSet (P .start) s && eqb k 0) is) (omega (arith, a .room, a .task .shape .levels)) m1
+    where
+      go : (b : Bool) → c ≡ cond b 0 noCost → (c ≡ none) ⊎ (c < 1)
+      go true e = inr (omega arith)
+      go false e = inl e
+
+  pub first-ready : {u : ℕ} → (131072 ≤ u) × (u < 196608)
+      → ((Apart free dst (4 * g .levels) × (dst + 4 * g .levels ≤ length w1)) × ((((131072 ≤ u) × (u < 196608)) × ((1 < 256) × (g .base + g .levels ≤ 196608))) × (Limits 1048576 18014398509481984 (g .base) (g .levels) × Sound 18014398509481984 (g .base) (g .levels) w1 free)))
+  first-ready h =
+      ((inr (omega (arith, a .under, a .task .shape .levels)), omega (arith, a .under, a .room, a .task .shape .levels, m1 .kept .size)),
+      ((h, (omega arith, omega (arith, a .task .shape .base, a .task .shape .levels, a .task .high))), (limits (a .task) 1048576 18014398509481984 (omega arith) (omega arith), curve-costs (curve-wider 1048576 18014398509481984 (omega arith) (omega arith) acc-first))))
+
+  module _ (u : ℕ) (at : pos u ≡ getD zs 0 (pos 0) +ℤ pos 163840) {w2 : List ℕ} (m2 : WithLoss 1 u (g .base) (g .levels) w1 w2 free dst) where
+    value-first : (j : ℕ) → raise c (1 * (far u (g .base + j) * far u (g .base + j))) ≡ tableAt P zs 1 k s j
+    unfolding tableAt firstTable firstCost raise
+    value-first j =
+        let z : 1 * (far u (g .base + j) * far u (g .base + j)) ≡ lossAt zs 0 (P .lo +ℤ pos j) = omega (arith, loss-place zs 0 (P .lo) u (g .base) at (base-place (a .task)) j) in
+        rw (is, z) (go (inSet (P .start) s && eqb k 0))
+      where
+        go : (b : Bool) → cond (ltb (cond b 0 noCost) noCost) (cond b 0 noCost + lossAt zs 0 (P .lo +ℤ pos j)) (cond b 0 noCost) ≡ cond b (lossAt zs 0 (P .lo +ℤ pos j)) noCost
+        go true = omega arith
+        go false = refl
+
+    pub first-made : NextList P zs 0 dst free k s ws w2
+    first-made = record {
+      beside = record {
+        size = m2 .kept .size ∙ m1 .kept .size;
+        word = λ i p q.
+            let L = a .task .shape .levels in
+            ⊎-elim (λ x. m2 .kept .before i x) (λ x. m2 .kept .after i (omega arith)) p
+            ∙ ⊎-elim (λ x. m1 .kept .before i x) (λ x. m1 .kept .after i (omega arith)) q;
+      };
+      list =
+          of-shape (a .task .shape)
+          (curve-wider 1 (1 * stepMost) (omega arith) (omega arith) (curve-as (tableAt P zs 1 k s) (λ j h. value-first j) (m2 .curve 0 1 _ (limits (a .task) _ _ (omega arith) (omega arith)) acc-first)));
+    }

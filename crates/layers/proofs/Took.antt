@@ -12,7 +12,7 @@ use Rattle.plan.specs.declared.Label.{Label}
 use Rattle.model.specs.Model.{penalty}
 use Rattle.model.specs.Labels.{countBefore}
 use Rattle.model.specs.Index.{noCost, edgeMin}
-use Rattle.model.specs.Held.{penaltyMost, penalty-low, Table}
+use Rattle.model.specs.Held.{penaltyMost, penalty-most, Table}
 use Rattle.labels.specs.Boundary.{leadsFrom}
 use Rattle.curve.specs.Curve.{Curve, Limits, curve-as, curve-most}
 use Rattle.layer.specs.declared.Temps.{Temps}
@@ -38,7 +38,7 @@ module _ (o : Option Label) (t : ℕ) (x : Edge) (k s cur : ℕ) (g : Shape) whe
     spared = m .spared;
     curve = λ A B C F H l h c d.
         curve-as (λ (j : ℕ). min (F j) (offered o t x k s (g .levels) H j)) (λ j i. rw (e, ep) refl)
-        (m .curve A B C F (H (countBefore o t (x .kind) k) (x .from)) l (omega (arith, ep, penalty-low (x .class))) c
+        (m .curve A B C F (H (countBefore o t (x .kind) k) (x .from)) l (omega (arith, ep, penalty-most (x .class))) c
         (subst (λ (p : ℕ). Curve A C (g .base) (g .levels) ws p (H (countBefore o t (x .kind) k) (x .from))) (sym ef) (d e)));
   }
 

@@ -3,15 +3,17 @@ use mathlib.Core.Path.{_≡_}
 use mathlib.Core.Logic.{_⊎_}
 use mathlib.Core.List.{List}
 use mathlib.Core.Option.{Option}
-use mathlib.Core.Bool.{true}
+use mathlib.Core.Bool.{true, _&&_, cond}
+use lib.Dec.{eqb}
 use Prim.Native.Nat.{ℕ, suc, _+_, _*_, _≤_, _<_}
 use lib.IntN.{ℤ, pos, _+ℤ_}
 use lib.ListN.{length, getD}
 use Rattle.plan.specs.declared.Plan.{Plan}
 use Rattle.plan.specs.declared.Label.{Label}
-use Rattle.model.specs.Model.{width, onGrid, lossAt}
+use Rattle.model.specs.Model.{width, onGrid, lossAt, inSet}
 use Rattle.model.specs.Labels.{labelOn, counts}
 use Rattle.model.specs.Checked.{Checked}
+use Rattle.model.specs.Index.{noCost}
 use Rattle.model.specs.Ends.{lossMost, tableAt}
 use Rattle.curve.specs.Curve.{Curve}
 use Rattle.layer.specs.Edge.{Off}
@@ -55,6 +57,18 @@ pub record NextList (P : Plan) (zs : List ℤ) (t dst free k s : ℕ) (ws ws′ 
   pub beside : Beside dst free (width P) ws ws′
   pub list : Curve (suc t) (suc t * stepMost) (baseOf P) (width P) ws′ dst (tableAt P zs (suc t) k s)
 
+-- what the first reading's loss is added to
+unfoldable pub firstCost : Plan → ℕ → ℕ → ℕ
+firstCost P k s = cond (inSet (P .start) s && eqb k 0) 0 noCost
+
+-- what is asked before list (k, s) of the first layer is made at dst
+pub record FirstReady (P : Plan) (zs : List ℤ) (dst free k s : ℕ) (g : Shape) (ws : List ℕ) : Type 0 where
+  pub task : Task P zs g
+  pub more : 0 < length zs
+  pub state : s < P .states
+  pub under : dst + 4 * width P ≤ free
+  pub room : free + 12 * width P ≤ length ws
+
 -- ---- many lists
 
 -- the lists with Q of the layer at o are those after t readings, and nothing else but the temporary lists is changed
@@ -90,3 +104,11 @@ pub record Stepped (P : Plan) (zs : List ℤ) (t o free : ℕ) (ws ws′ : List 
   pub size : length ws′ ≡ length ws
   pub word : (i : ℕ) → (i < o) ⊎ (o + layerWords P ≤ i) → (i < free) ⊎ (free + 12 * width P ≤ i) → getD ws′ i 0 ≡ getD ws i 0
   pub layer : Layer P zs t ws′ o
+
+-- what is asked before the first layer is made at o
+pub record StartReady (P : Plan) (zs : List ℤ) (o free : ℕ) (g : Shape) (ws : List ℕ) : Type 0 where
+  pub task : Task P zs g
+  pub more : 0 < length zs
+  pub under : o + layerWords P ≤ free
+  pub room : free + 12 * width P ≤ length ws
+  pub place : free ≤ 1048576

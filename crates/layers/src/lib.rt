@@ -11,7 +11,7 @@ ghost use Rattle.model.specs.Model.{inSet};
 ghost use Rattle.model.specs.Labels.{labelOn};
 ghost use Rattle.labels.specs.Boundary.{labelOf};
 ghost use Rattle.layers.specs.Layer.{Shape-small, listAt};
-ghost use Rattle.layers.specs.Next.{NextReady, NextList, StepReady, Lists, OfCount, Stepped};
+ghost use Rattle.layers.specs.Next.{NextReady, NextList, StepReady, Lists, OfCount, Stepped, firstCost, FirstReady, StartReady};
 ghost use Rattle.layers.specs.Step.{MayTake, TookOne, EdgesReady, TookEdges};
 
 // How many states and levels there are, and the place of the lowest level.
@@ -166,6 +166,56 @@ pub fn next_layer(
     let mut k = 0;
     while k < labels::COUNTS {
         next_count(ws, plan, readings, on, t, cur, next, free, k, g);
+        k += 1;
+    }
+}
+
+// What the loss of the first reading is added to: nothing where the state may start with count 0, else none.
+fn first_cost(plan: Plan, k: usize, s: usize) -> u64
+    requires { ⌜ s < 8 ⌝ }
+    ensures { λ r. ⌜ r ≡ firstCost plan k s ⌝ }
+{
+    if k != 0 {
+        return quadratic::NONE;
+    }
+    if in_set(plan.start, s) { 0 } else { quadratic::NONE }
+}
+
+// List (k, s) of the layer after the first reading, at dst.
+fn first_list(ws: &mut [u64], plan: Plan, readings: &[i16], dst: usize, free: usize, k: usize, s: usize, g: Shape)
+    requires { ⌜ FirstReady plan (now readings) dst free k s g (now ws) ⌝ }
+    ensures { λ r. ⌜ NextList plan (now (readings .entry)) 0 dst free k s (now (ws .entry)) (now (ws .exit)) ⌝ }
+{
+    let levels = g.levels;
+    let base = g.base;
+    let c = first_cost(plan, k, s);
+    curve::constant(ws, free, levels, c);
+    let u = integers::bias(readings[0]);
+    layer::add_reading(ws, free, u, 1, dst, levels, base);
+}
+
+// The lists of count k in the layer after the first reading, at o.
+fn first_count(ws: &mut [u64], plan: Plan, readings: &[i16], o: usize, free: usize, k: usize, g: Shape)
+    requires { ⌜ StartReady plan (now readings) o free g (now ws) × (k < 2) ⌝ }
+    ensures { λ r. ⌜ Lists (OfCount k (plan .states)) plan (now (readings .entry)) 1 o free (now (ws .entry)) (now (ws .exit)) ⌝ }
+{
+    let states = g.states;
+    let mut s = 0;
+    while s < states {
+        let dst = list_at(o, g, k, s);
+        first_list(ws, plan, readings, dst, free, k, s, g);
+        s += 1;
+    }
+}
+
+// The layer after the first reading, at o.
+pub fn first_layer(ws: &mut [u64], plan: Plan, readings: &[i16], o: usize, free: usize, g: Shape)
+    requires { ⌜ StartReady plan (now readings) o free g (now ws) ⌝ }
+    ensures { λ r. ⌜ Stepped plan (now (readings .entry)) 1 o free (now (ws .entry)) (now (ws .exit)) ⌝ }
+{
+    let mut k = 0;
+    while k < labels::COUNTS {
+        first_count(ws, plan, readings, o, free, k, g);
         k += 1;
     }
 }
