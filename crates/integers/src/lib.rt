@@ -1,10 +1,11 @@
 // Signed helpers.
 ghost use mathlib.Core.Path.{_≡_};
-ghost use Prim.Native.Nat.{ℕ, _+_, _*_, _≤_, _<_};
+ghost use Prim.Native.Nat.{ℕ, _+_, _*_, _/_, _%_, _≤_, _<_};
 ghost use lib.IntN.{ℤ, pos, negsuc, _+ℤ_, _-ℤ_, _*ℤ_};
 ghost use lib.ListN.{length, getD, set};
 ghost use lib.Signed.{_≤ℤ_, _<ℤ_};
 ghost use Rattle.integers.specs.Level.{Placed};
+ghost use Rattle.integers.specs.Bytes.{word, signed16, bits16};
 
 // The place of a signed level, counted from -163840.
 pub fn bias(x: i64) -> u64
@@ -60,4 +61,40 @@ pub fn place(m: i64, x: u64, y: u64) -> u64
     } else {
         (m + 163840) as u64
     }
+}
+
+// The signed number of two bytes, the high one first.
+pub fn signed16(high: u8, low: u8) -> i16
+    ensures { λ r. ⌜ r ≡ signed16 (word high low) ⌝ }
+{
+    let n = (high as u16) * 256 + (low as u16);
+    if n < 32768 {
+        return n as i16;
+    }
+    let m = (n as i32) - 65536;
+    m as i16
+}
+
+// The 16 bits of a signed number.
+pub fn bits16(x: i16) -> u16
+    ensures { λ r. ⌜ r ≡ bits16 x ⌝ }
+{
+    let wide = x as i32;
+    if wide < 0 {
+        return (wide + 65536) as u16;
+    }
+    wide as u16
+}
+
+// Their two bytes.
+pub fn high16(x: i16) -> u8
+    ensures { λ r. ⌜ r ≡ bits16 x / 256 ⌝ }
+{
+    (bits16(x) / 256) as u8
+}
+
+pub fn low16(x: i16) -> u8
+    ensures { λ r. ⌜ r ≡ bits16 x % 256 ⌝ }
+{
+    (bits16(x) % 256) as u8
 }
