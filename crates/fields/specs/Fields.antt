@@ -43,9 +43,7 @@ countFits tag len = pick (eqb tag 0x05) (countOk (len / 2)) true
 -- a whole header: 2, 3, 9, then 1 for a cut body
 unfoldable pub checkedField : ℕ → ℕ → ℕ → ℕ → ℕ → Field
 checkedField stage tag len start left =
-    pick (mayStand stage tag)
-    (pick (lengthFits tag len) (pick (countFits tag len) (pick (leb len left) (Body tag start len) (Wrong 1)) (Wrong 9)) (Wrong 3))
-    (Wrong 2)
+    pick (mayStand stage tag) (pick (lengthFits tag len) (pick (countFits tag len) (pick (leb len left) (Body tag start len) (Wrong 1)) (Wrong 9)) (Wrong 3)) (Wrong 2)
 
 -- the field at a position, at a stage of the file: 1 for a cut header, then as the header says
 unfoldable pub fieldAt : List ℕ → ℕ → ℕ → Field
