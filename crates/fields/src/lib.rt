@@ -20,6 +20,12 @@ pub enum Field {
     Wrong(u8),
 }
 
+// What a writer answers: how many bytes it wrote, or the refusal.
+pub enum Written {
+    Bytes(usize),
+    Refused(u8),
+}
+
 // The table of tags. A tag that has no row of its own stands nowhere.
 pub fn row_of(tag: u8) -> Row
     ensures { λ r. ⌜ r ≡ rowOf tag ⌝ }

@@ -17,11 +17,6 @@ use Rattle.fields.specs.declared.Field.{Field}
 use Rattle.fields.specs.declared.Field.the-variants.{Body, Wrong}
 use Rattle.files.specs.declared.FileRead.{FileRead}
 
--- the number of a plan call's answer
-abbrev pub answerNumber : Answer → ℕ
-answerNumber Done = 0
-answerNumber (Refused n) = n
-
 -- an unsealed plan with every number 0
 abbrev pub noPlan : Plan
 noPlan = blank (pos 0) (pos 0) 0 0 0
