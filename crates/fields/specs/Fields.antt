@@ -65,6 +65,10 @@ abbrev pub fieldBody : List ℕ → Field → List ℕ
 fieldBody s (Body t start len) = partOf s start len
 fieldBody s (Wrong n) = []
 
+-- the number of 16 bits at a place of a body
+abbrev pub wordAt : List ℕ → ℕ → ℕ
+wordAt b i = word (getD b i 0) (getD b (i + 1) 0)
+
 -- the bytes of a field
 abbrev pub field : ℕ → List ℕ → List ℕ
 field tag body = tag ∷ (length body / 256 ∷ (length body % 256 ∷ body))

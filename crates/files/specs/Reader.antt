@@ -6,13 +6,13 @@ use lib.ListN.{length, getD}
 use lib.Dec.{eqb}
 use lib.IntN.{ℤ, pos}
 use Rattle.integers.specs.Pick.{pick}
-use Rattle.integers.specs.Bytes.{word, signed16}
+use Rattle.integers.specs.Bytes.{signed16}
 use Rattle.plan.specs.Build.{gridOk, openPlan, addEdge, addLabel, sealPlan, blank, refusedAt}
 use Rattle.plan.specs.declared.Plan.{Plan}
 use Rattle.plan.specs.declared.Built.{Built}
 use Rattle.plan.specs.declared.Answer.{Answer}
 use Rattle.plan.specs.declared.Answer.the-variants.{Done, Refused}
-use Rattle.fields.specs.Fields.{rowOf, fieldAt, fieldNumber, partOf}
+use Rattle.fields.specs.Fields.{rowOf, fieldAt, fieldNumber, partOf, wordAt}
 use Rattle.fields.specs.declared.Field.{Field}
 use Rattle.fields.specs.declared.Field.the-variants.{Body, Wrong}
 use Rattle.files.specs.declared.FileRead.{FileRead}
@@ -25,10 +25,7 @@ noPlan = blank (pos 0) (pos 0) 0 0 0
 unfoldable pub refusedFile : ℕ → FileRead
 refusedFile n = record { answer = Refused n; plan = noPlan; start = 0; len = 0 }
 
--- the number of 16 bits at a place of a body, unsigned and signed
-abbrev pub wordAt : List ℕ → ℕ → ℕ
-wordAt b i = word (getD b i 0) (getD b (i + 1) 0)
-
+-- the signed number of 16 bits at a place of a body
 abbrev pub levelAt : List ℕ → ℕ → ℤ
 levelAt b i = signed16 (wordAt b i)
 
