@@ -7,7 +7,7 @@ use native.Mathlib.Nat.{add-zero}
 use mathlib.Core.Path.{_≡_, refl, sym, _∙_, ap, ap₂}
 use mathlib.Core.Bool.{Bool, true, false}
 use mathlib.Core.List.{List, [], _∷_, _++_, append-assoc}
-use lib.Dec.{ltb, leb, eqb}
+use lib.Dec.{ltb, leb, eqb, lit<}
 use lib.ListN.{length, getD, take, drop, length-append, length-take, length-drop}
 use lib.Seq.{take-all, take-add, take-at, drop-at, drop-cons, getD-append-add, getD-take, take-length, length-take-le, drop-append-add, getD-drop}
 use borrow.Author.Tests.{lt-ltb, le-ltb, ltb-false, ltb-true, leb-true, leb-false, le-leb, lt-leb, eqb-true, eqb-false, eq-eqb, ne-eqb}
@@ -118,3 +118,21 @@ module _ (pre body rest : List ℕ) (t stage : ℕ) (stands : mayStand stage t �
       ap (λ (x : List ℕ). take (length body) (drop (length pre + 3) x)) (append-assoc pre (field t body) rest) ∙
       ap (take (length body)) (drop-append-add pre (field t body ++ rest) 3) ∙
       take-at body rest (length body) refl
+
+-- a part of bytes is bytes
+take-bytes : (n : ℕ) (s : List ℕ) → AllBytes s → AllBytes (take n s)
+take-bytes zero s f i = lit< tt
+take-bytes (suc n) [] f i = lit< tt
+take-bytes (suc n) (x ∷ s) f zero = f 0
+take-bytes (suc n) (x ∷ s) f (suc i) = take-bytes n s (λ j. f (suc j)) i
+
+drop-bytes : (n : ℕ) (s : List ℕ) → AllBytes s → AllBytes (drop n s)
+drop-bytes n s f i = rw (getD-drop n s i 0) (f (n + i))
+
+pub part-bytes : (s : List ℕ) (st l : ℕ) → AllBytes s → AllBytes (partOf s st l)
+unfolding partOf
+part-bytes s st l f = go (leb (st + l) (length s))
+  where
+    go : (b : Bool) → AllBytes (pick b (take l (drop st s)) [])
+    go true = take-bytes l (drop st s) (drop-bytes st s f)
+    go false = λ i. lit< tt
