@@ -1,8 +1,9 @@
-// Signed numbers: division rounded down, and levels as places counted from 0.
+// Signed numbers: division rounded down, levels as places counted from 0, and their bytes.
 ghost use mathlib.Core.Path.{_≡_};
-ghost use Prim.Native.Nat.{_%_, _≤_, _<_};
+ghost use Prim.Native.Nat.{_/_, _%_, _≤_, _<_};
 ghost use lib.IntN.{pos, _+ℤ_, _-ℤ_};
 ghost use Rattle.integers.specs.Floor.{floorDiv};
+ghost use Rattle.integers.specs.Bytes.{word, signed16, bits16};
 
 // The place of a level or a reading. Places are counted from -163840, so that levels moved by gaps and mirrored stay above zero.
 pub fn bias(x: i16) -> u64
@@ -27,4 +28,40 @@ pub fn floor_div(n: i64, d: i64) -> i64
     }
     let q = n / d;
     if n % d < 0 { q - 1 } else { q }
+}
+
+// The signed number of two bytes, the high one first.
+pub fn signed16(high: u8, low: u8) -> i16
+    ensures { λ r. ⌜ r ≡ signed16 (word high low) ⌝ }
+{
+    let n = (high as u16) * 256 + (low as u16);
+    if n < 32768 {
+        return n as i16;
+    }
+    let m = (n as i32) - 65536;
+    m as i16
+}
+
+// The 16 bits of a signed number.
+pub fn bits16(x: i16) -> u16
+    ensures { λ r. ⌜ r ≡ bits16 x ⌝ }
+{
+    let wide = x as i32;
+    if wide < 0 {
+        return (wide + 65536) as u16;
+    }
+    wide as u16
+}
+
+// Their two bytes.
+pub fn high16(x: i16) -> u8
+    ensures { λ r. ⌜ r ≡ bits16 x / 256 ⌝ }
+{
+    (bits16(x) / 256) as u8
+}
+
+pub fn low16(x: i16) -> u8
+    ensures { λ r. ⌜ r ≡ bits16 x % 256 ⌝ }
+{
+    (bits16(x) % 256) as u8
 }

@@ -1,0 +1,4 @@
+-- Laws that several proofs cite.
+pub mod Walk
+pub mod Stored
+pub mod Cases
