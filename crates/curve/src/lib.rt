@@ -116,7 +116,15 @@ fn next(i: usize, e: u64, y: u64) -> usize
 }
 
 // dst: at each level the less of f's and of g's with pen added.
-pub fn least_of_two(ws: &mut [u64], f: usize, g: usize, pen: u64, dst: usize, levels: u64, base: u64)
+pub fn least_of_two(
+    ws: &mut [u64],
+    f: usize,
+    g: usize,
+    pen: u64,
+    dst: usize,
+    levels: u64,
+    base: u64,
+)
     requires { ⌜ Lent (now ws) f dst (4 * levels) levels × (Lent (now ws) g dst (4 * levels) levels × (dst + 4 * levels ≤ length (now ws))) ⌝ }
     requires { ⌜ (pen ≤ 1152921504606846976) × (base + levels ≤ 262144) ⌝ }
     requires { ⌜ ((j : ℕ) → j < levels → Sized (piece (now ws) f levels j)) ⌝ }
