@@ -53,7 +53,7 @@ unfolding tableAt
 table-next P zs zero k s j h = absurd (omega arith)
 table-next P zs (suc t) k s j h = refl
 
-min-ext : (n : ℕ) (f g : ℕ → ℕ) → ((i : ℕ) → i < n → f i ≡ g i) → minBelow n f ≡ minBelow n g
+pub min-ext : (n : ℕ) (f g : ℕ → ℕ) → ((i : ℕ) → i < n → f i ≡ g i) → minBelow n f ≡ minBelow n g
 unfolding minBelow
 min-ext zero f g h = refl
 min-ext (suc n) f g h = rw (min-ext n f g (λ i k. h i (omega arith)), h n (omega arith)) refl
