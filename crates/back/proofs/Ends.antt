@@ -17,6 +17,7 @@ use Rattle.curve.specs.declared.Low.{Low}
 use Rattle.curve.specs.Pieces.{piece, Held}
 use Rattle.curve.specs.Lows.{costs, Least, LeastIn}
 use Rattle.curve.specs.Curve.{Curve, Limits, curve-fine, curve-most}
+use Rattle.layer.specs.Edge.{Sound}
 use Rattle.layers.specs.declared.Shape.{Shape}
 use Rattle.layers.specs.Layer.{listAt, ShapeOf}
 use Rattle.back.specs.Read.{Readable, Reads, min-one-more, min-none-yet}
@@ -28,6 +29,9 @@ module _ {cur : ℕ} {g : Shape} {ws : List ℕ} (a : Readable cur g ws) (k s : 
 
   pub fine : (j : ℕ) → j < g .levels → Fine 1048576 18014398509481984 (piece ws f (g .levels) j) (g .base + j)
   fine = subst (λ (o : ℕ). (j : ℕ) → j < g .levels → Fine 1048576 18014398509481984 (piece ws o (g .levels) j) (g .base + j)) (sym ef) (curve-fine (a .bounds) (a .list k s hk hs))
+
+  pub sound : Sound 18014398509481984 (g .base) (g .levels) ws f
+  sound = subst (λ (o : ℕ). Sound 18014398509481984 (g .base) (g .levels) ws o) (sym ef) (a .list k s hk hs)
 
   module _ {H : Table} (r : Reads cur g ws H) where
     cost-is : (j : ℕ) → j < g .levels → costs (g .base) (piece ws f (g .levels)) j ≡ H k s j
