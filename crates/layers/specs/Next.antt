@@ -15,6 +15,7 @@ use Rattle.model.specs.Labels.{labelOn, counts}
 use Rattle.model.specs.Checked.{Checked}
 use Rattle.model.specs.Index.{noCost}
 use Rattle.model.specs.Ends.{lossMost, tableAt}
+use Rattle.model.specs.Tables.{Ready}
 use Rattle.curve.specs.Curve.{Curve}
 use Rattle.layer.specs.Edge.{Off}
 use Rattle.layers.specs.declared.Shape.{Shape}
@@ -23,6 +24,7 @@ use Rattle.layers.specs.Layer.{stepMost, baseOf, listAt, ShapeOf, Layer}
 -- a plan and a record that no number before 14 refuses, and their shape
 pub record Task (P : Plan) (zs : List ℤ) (g : Shape) : Type 0 where
   pub checked : Checked P
+  pub ready : Ready P zs
   pub shape : ShapeOf P g
   pub most : length zs ≤ 4096
   pub place : pos (baseOf P) ≡ P .lo +ℤ pos 163840
