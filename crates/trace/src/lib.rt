@@ -15,6 +15,7 @@ ghost use lib.IntN.{pos, _+ℤ_};
 ghost use Rattle.model.specs.Run.{joins};
 ghost use Rattle.quadratic.specs.Fine.{far};
 ghost use Rattle.runs.specs.Runs.{fiveOf};
+ghost use Rattle.trace.specs.Trace.{StepReady, StepMade};
 
 
 // Where the way back stands: count, state, index of the level, and the cost there; the last reading of the run that is open, and how many
@@ -69,5 +70,63 @@ pub fn run_of(first: usize, last: usize, state: usize, lo: i16, j: u64, edge: us
         state: state as i32,
         level: (lo as i32) + (j as i32),
         edge: edge as i32,
+    }
+}
+
+// The step over boundary t, the layer after t readings standing at cur.
+pub fn step(
+    ws: &[u64],
+    plan: Plan,
+    readings: &[i16],
+    t: usize,
+    cur: usize,
+    g: Shape,
+    from: Point,
+    out: &mut [i32],
+) -> Point
+    requires { ⌜ StepReady plan (now readings) t cur g from (now ws) (now out) ⌝ }
+    ensures { λ r. ⌜ StepMade plan (now (readings .entry)) t from r (now (out .entry)) (now (out .exit)) ⌝ }
+{
+    let on = labels::label_on(plan, t);
+    let u = integers::bias(readings[t]);
+    let want = from.value - square_of(u, g.base + from.level);
+    let found = back::step_back(
+        ws,
+        plan,
+        on,
+        t,
+        cur,
+        from.count,
+        from.state,
+        from.level,
+        want,
+        g,
+    );
+    let Back::To { edge, level, value } = found else {
+        return from;
+    };
+    let e = back::edge_at(plan, edge);
+    let kind = e.kind;
+    let count = labels::count_before(on, t, kind, from.count);
+    let state = e.from as usize;
+    if joins_run(e) {
+        return Point {
+            count,
+            state,
+            level,
+            value,
+            last: from.last,
+            runs: from.runs,
+        };
+    }
+    let r = run_of(t + 1, from.last, from.state, plan.lo, from.level, edge);
+    runs::put_run(out, from.runs, r);
+    Point {
+        count,
+        state,
+        level,
+        value,
+        last: t,
+        runs: from.runs + 1,
     }
 }
