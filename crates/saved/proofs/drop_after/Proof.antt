@@ -1,0 +1,63 @@
+use borrow.Author.Needs.{needs}
+use Rattle.saved.proofs.drop_after.Statement.{statement}
+use Rattle.saved.proofs.drop_after.Tie as tie
+use Rattle.saved.proofs.drop_after.Reads as reads
+use Rattle.saved.proofs.drop_after.Lts as lts
+
+abbrev Inv-loop : tie.InvT-loop
+Inv-loop t time next₀ n₀ next n = ?
+
+abbrev μ-loop : tie.MeasureT-loop
+μ-loop t time next₀ n₀ next n = ?
+
+-- src/lib.rt:194:5
+loop-holds : tie.Need-loop-holds Inv-loop μ-loop
+loop-holds c = ?
+
+-- src/lib.rt:195:17
+sub-if1 : tie.Need-sub-if1 Inv-loop μ-loop
+sub-if1 c = ?
+
+-- src/lib.rt:195:12
+mul-if1 : tie.Need-mul-if1 Inv-loop μ-loop
+mul-if1 c = ?
+
+-- src/lib.rt:195:12
+array-read-if1 : tie.Need-array-read-if1 Inv-loop μ-loop
+array-read-if1 c = ?
+
+-- src/lib.rt:197:13
+returns : tie.Need-returns Inv-loop μ-loop
+returns c = ?
+
+-- src/lib.rt:199:9
+sub-n : tie.Need-sub-n Inv-loop μ-loop
+sub-n c = ?
+
+-- src/lib.rt:194:5
+loop-less : tie.Need-loop-less Inv-loop μ-loop
+loop-less c = ?
+
+-- src/lib.rt:194:5
+loop-again : tie.Need-loop-again Inv-loop μ-loop
+loop-again c = ?
+
+-- src/lib.rt:187:1
+returns-2 : tie.Need-returns-2 Inv-loop μ-loop
+returns-2 c = ?
+
+pub drop-after-spec : {M : Type 1} → statement M
+drop-after-spec =
+    tie.close
+    (tie.spec
+    Inv-loop
+    μ-loop
+    loop-holds
+    sub-if1
+    mul-if1
+    array-read-if1
+    returns
+    sub-n
+    loop-less
+    loop-again
+    returns-2)

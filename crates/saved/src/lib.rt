@@ -1,0 +1,203 @@
+// The layers in any order of time: some are saved, packed end to end in the workspace, and the others made again from them.
+// What is saved, and when, never changes an answer: each entry of the stack holds the layer after as many readings as it says.
+//
+// The words of the workspace, with S states and L levels: two layers from 0 and from 8 · S · L, three lists of next_layer from
+// 16 · S · L, and the stack of saved layers from 16 · S · L + 12 · L up to 48 · S · L.
+use layers::Shape;
+use plan::Plan;
+ghost use mathlib.Core.Path.{_≡_};
+ghost use Prim.Native.Nat.{ℕ, suc, _+_, _*_, _≤_, _<_};
+ghost use lib.ListN.{length};
+ghost use Rattle.layers.specs.Layer.{Shape-small};
+ghost use Rattle.saved.specs.Packed.{Row, PackReady, Saves, UnpackReady, Unpacked};
+ghost use Rattle.saved.specs.Walk.{Workspace, At, Walked, Places, Stack, Pushed, Dropped, Restarted, Stops, Empty};
+
+// Entry i: the layer after time[i] readings, packed in the words from off[i] up to off[i + 1].
+pub struct Saved {
+    pub count: usize,
+    pub time: [usize; 96],
+    pub off: [usize; 97],
+}
+
+// The layer after `time` readings stands at cur; other is where the other layer has its place.
+pub struct Walk {
+    pub time: usize,
+    pub cur: usize,
+    pub other: usize,
+    pub saved: Saved,
+}
+
+// Where packed lists end, or that there is no room for them.
+pub enum Room {
+    Upto(usize),
+    Full,
+}
+
+// The words of one list of each level's piece for each state are four times this.
+fn area(g: Shape) -> usize
+    requires { ⌜ Shape-small g ⌝ }
+    ensures { λ r. ⌜ (r ≡ g .states * g .levels) × (r ≤ 8192) ⌝ }
+{
+    g.states * (g.levels as usize)
+}
+
+// The n lists from o on, packed from at on as far as limit.
+fn pack(ws: &mut [u64], o: usize, at: usize, limit: usize, n: usize, levels: u64) -> Room
+    requires { ⌜ PackReady (now ws) o at limit n levels ⌝ }
+    ensures { λ r. ⌜ Saves (now (ws .entry)) (now (ws .exit)) o at limit n levels r ⌝ }
+{
+    let size = 4 * (levels as usize);
+    let mut to = at;
+    let mut q = 0;
+    while q < n {
+        let f = o + q * size;
+        let words = 4 * curve::count(ws, f, levels);
+        if limit - to < words {
+            return Room::Full;
+        }
+        curve::copy(ws, f, to, levels);
+        to += words;
+        q += 1;
+    }
+    Room::Upto(to)
+}
+
+// The n lists packed from at on, put in their places from o on.
+fn unpack(ws: &mut [u64], at: usize, o: usize, n: usize, levels: u64)
+    requires { ⌜ UnpackReady (now ws) at o n levels ⌝ }
+    ensures { λ r. ⌜ Unpacked (now (ws .entry)) (now (ws .exit)) at o n levels ⌝ }
+{
+    let size = 4 * (levels as usize);
+    let mut from = at;
+    let mut q = 0;
+    while q < n {
+        let pieces = curve::copy(ws, from, o + q * size, levels);
+        from += 4 * pieces;
+        q += 1;
+    }
+}
+
+// The words that the n lists from o on take when they are packed.
+fn words_of(ws: &[u64], o: usize, n: usize, levels: u64) -> usize
+    requires { ⌜ Row (now ws) o n levels × (o + n * (4 * levels) ≤ 1048576) ⌝ }
+    ensures { λ r. ⌜ r ≤ 65536 ⌝ }
+{
+    let size = 4 * (levels as usize);
+    let mut sum = 0;
+    let mut q = 0;
+    while q < n {
+        let pieces = curve::count(ws, o + q * size, levels);
+        sum += 4 * pieces;
+        q += 1;
+    }
+    sum
+}
+
+// The least number r with binomial(c + r, r) ≥ d, which is at most d: with c layers at hand, d steps are walked back with each made at
+// most r times.
+fn repeats(d: usize, c: usize) -> usize
+    requires { ⌜ (d ≤ 4096) × (c ≤ 4096) ⌝ }
+    ensures { λ r. ⌜ r ≤ d ⌝ }
+{
+    let mut r = 0;
+    let mut b = 1;
+    while r < d {
+        if d <= b {
+            return r;
+        }
+        r += 1;
+        b = b * (c + r) / r;
+    }
+    r
+}
+
+// x, or the nearest number from 1 to d.
+fn clamp(x: usize, d: usize) -> usize
+    requires { ⌜ 0 < d ⌝ }
+    ensures { λ r. ⌜ (0 < r) × (r ≤ d) ⌝ }
+{
+    if x == 0 {
+        return 1;
+    }
+    if x < d { x } else { d }
+}
+
+// Where to save next on the way from a to t, with room for c layers: t where there is none.
+fn next_save(a: usize, t: usize, c: usize) -> usize
+    requires { ⌜ (a < t) × ((t ≤ 4096) × (c ≤ 96)) ⌝ }
+    ensures { λ r. ⌜ (a < r) × (r ≤ t) ⌝ }
+{
+    if c == 0 {
+        return t;
+    }
+    let d = t - a;
+    let r = repeats(d, c + 1);
+    let x = d * r / (c + 1 + r);
+    a + clamp(x, d)
+}
+
+// How many layers of about these words there is room for: at most the slots. Later layers are taken as a quarter larger.
+fn free_slots(words: usize, free: usize, slots: usize) -> usize
+    requires { ⌜ (words ≤ 65536) × (slots ≤ 96) ⌝ }
+    ensures { λ r. ⌜ r ≤ 96 ⌝ }
+{
+    let fit = free / (words * 5 / 4 + 1);
+    if fit < slots { fit } else { slots }
+}
+
+// How far to go before the next layer is saved.
+fn next_stop(ws: &[u64], g: Shape, walk: Walk, t: usize) -> usize
+    requires { ⌜ Stops g walk t (now ws) ⌝ }
+    ensures { λ r. ⌜ (walk .time < r) × (r ≤ t) ⌝ }
+{
+    let saved = walk.saved;
+    let n = saved.count;
+    let off = saved.off;
+    let free = 48 * area(g) - off[n];
+    let words = words_of(ws, walk.cur, labels::COUNTS * g.states, g.levels);
+    let c = free_slots(words, free, 96 - n);
+    next_save(walk.time, t, c)
+}
+
+// No layer saved; the stack begins at first.
+fn empty(first: usize) -> Saved
+    ensures { λ r. ⌜ Empty first r ⌝ }
+{
+    Saved {
+        count: 0,
+        time: [0; 96],
+        off: [first; 97],
+    }
+}
+
+// The layer after t readings, packed up to e, on top.
+fn push(saved: Saved, t: usize, e: usize) -> Saved
+    requires { ⌜ saved .count < 96 ⌝ }
+    ensures { λ r. ⌜ Pushed saved t e r ⌝ }
+{
+    let n = saved.count;
+    let mut next = saved;
+    next.time[n] = t;
+    next.off[n + 1] = e;
+    next.count = n + 1;
+    next
+}
+
+// Without the entries later than t on top.
+fn drop_after(saved: Saved, t: usize) -> Saved
+    requires { ⌜ saved .count ≤ 96 ⌝ }
+    ensures { λ r. ⌜ Dropped saved t r ⌝ }
+{
+    let time = saved.time;
+    let mut next = saved;
+    let mut n = saved.count;
+    while 0 < n {
+        if time[n - 1] <= t {
+            next.count = n;
+            return next;
+        }
+        n -= 1;
+    }
+    next.count = 0;
+    next
+}
