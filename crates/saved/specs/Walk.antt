@@ -67,6 +67,13 @@ pub record Workspace (P : Plan) (zs : List ℤ) (g : Shape) (ws : List ℕ) : Ty
   pub some : 1 ≤ length zs
   pub room : limit P ≤ length ws
 
+-- what is asked before a walk goes forward to t
+pub record Goes (P : Plan) (zs : List ℤ) (g : Shape) (w : Walk) (t : ℕ) (ws : List ℕ) : Type 0 where
+  pub space : Workspace P zs g ws
+  pub at : At P zs w ws
+  pub from : w .time ≤ t
+  pub most : t ≤ length zs
+
 -- the walk is at t, and no word above the stack is changed
 pub record Walked (P : Plan) (zs : List ℤ) (t : ℕ) (ws ws′ : List ℕ) (r : Walk) : Type 0 where
   pub at : At P zs r ws′

@@ -10,7 +10,7 @@ ghost use Prim.Native.Nat.{ℕ, suc, _+_, _*_, _≤_, _<_};
 ghost use lib.ListN.{length};
 ghost use Rattle.layers.specs.Layer.{Shape-small};
 ghost use Rattle.saved.specs.Packed.{Row, PackReady, Saves, UnpackReady, Unpacked};
-ghost use Rattle.saved.specs.Walk.{Workspace, At, Walked, Places, Stack, Pushed, Dropped, Restarted, Stops, Empty};
+ghost use Rattle.saved.specs.Walk.{Workspace, At, Goes, Walked, Places, Stack, Pushed, Dropped, Restarted, Stops, Empty};
 
 // Entry i: the layer after time[i] readings, packed in the words from off[i] up to off[i + 1].
 pub struct Saved {
@@ -172,7 +172,7 @@ fn empty(first: usize) -> Saved
 
 // The layer after t readings, packed up to e, on top.
 fn push(saved: Saved, t: usize, e: usize) -> Saved
-    requires { ⌜ saved .count < 96 ⌝ }
+    requires { ⌜ (saved .count < 96) × ((length (saved .time) ≡ 96) × (length (saved .off) ≡ 97)) ⌝ }
     ensures { λ r. ⌜ Pushed saved t e r ⌝ }
 {
     let n = saved.count;
@@ -200,4 +200,146 @@ fn drop_after(saved: Saved, t: usize) -> Saved
     }
     next.count = 0;
     next
+}
+
+// From the top saved layer, or from the first reading where none is saved.
+fn restart(
+    ws: &mut [u64],
+    plan: Plan,
+    readings: &[i16],
+    g: Shape,
+    cur: usize,
+    other: usize,
+    saved: Saved,
+) -> Walk
+    requires { ⌜ Workspace plan (now readings) g (now ws) × (Places plan cur other × Stack plan (now readings) saved (now ws)) ⌝ }
+    ensures { λ r. ⌜ Restarted plan (now (readings .entry)) saved (now (ws .entry)) (now (ws .exit)) r ⌝ }
+{
+    let n = saved.count;
+    if n == 0 {
+        let free = 16 * area(g);
+        layers::first_layer(ws, plan, readings, cur, free, g);
+        return Walk {
+            time: 1,
+            cur,
+            other,
+            saved,
+        };
+    }
+    let times = saved.time;
+    let off = saved.off;
+    let time = times[n - 1];
+    let at = off[n - 1];
+    unpack(ws, at, cur, labels::COUNTS * g.states, g.levels);
+    Walk {
+        time,
+        cur,
+        other,
+        saved,
+    }
+}
+
+// One reading further.
+fn step(ws: &mut [u64], plan: Plan, readings: &[i16], g: Shape, walk: Walk) -> Walk
+    requires { ⌜ Workspace plan (now readings) g (now ws) × (At plan (now readings) walk (now ws) × (walk .time < length (now readings))) ⌝ }
+    ensures { λ r. ⌜ Walked plan (now (readings .entry)) (walk .time + 1) (now (ws .entry)) (now (ws .exit)) r ⌝ }
+{
+    let time = walk.time;
+    let cur = walk.cur;
+    let other = walk.other;
+    let saved = walk.saved;
+    let free = 16 * area(g);
+    layers::next_layer(ws, plan, readings, time, cur, other, free, g);
+    Walk {
+        time: time + 1,
+        cur: other,
+        other: cur,
+        saved,
+    }
+}
+
+// Forward to x, with nothing saved on the way.
+fn forward(ws: &mut [u64], plan: Plan, readings: &[i16], g: Shape, walk: Walk, x: usize) -> Walk
+    requires { ⌜ Goes plan (now readings) g walk x (now ws) ⌝ }
+    ensures { λ r. ⌜ Walked plan (now (readings .entry)) x (now (ws .entry)) (now (ws .exit)) r ⌝ }
+{
+    let mut w = walk;
+    while w.time < x {
+        w = step(ws, plan, readings, g, w);
+    }
+    w
+}
+
+// Forward to x, where the layer is saved if it is not the last on the way to t and there is room.
+fn go_on(
+    ws: &mut [u64],
+    plan: Plan,
+    readings: &[i16],
+    g: Shape,
+    walk: Walk,
+    x: usize,
+    t: usize,
+) -> Walk
+    requires { ⌜ Goes plan (now readings) g walk x (now ws) ⌝ }
+    ensures { λ r. ⌜ Walked plan (now (readings .entry)) x (now (ws .entry)) (now (ws .exit)) r ⌝ }
+{
+    let w = forward(ws, plan, readings, g, walk, x);
+    if t <= x {
+        return w;
+    }
+    let saved = w.saved;
+    let n = saved.count;
+    if 96 <= n {
+        return w;
+    }
+    let off = saved.off;
+    let at = off[n];
+    let limit = 48 * area(g);
+    let room = pack(ws, w.cur, at, limit, labels::COUNTS * g.states, g.levels);
+    match room {
+        Room::Full => w,
+        Room::Upto(e) => {
+            let more = push(saved, w.time, e);
+            Walk {
+                time: w.time,
+                cur: w.cur,
+                other: w.other,
+                saved: more,
+            }
+        }
+    }
+}
+
+// Forward to t, with layers saved on the way.
+pub fn advance(ws: &mut [u64], plan: Plan, readings: &[i16], g: Shape, walk: Walk, t: usize) -> Walk
+    requires { ⌜ Goes plan (now readings) g walk t (now ws) ⌝ }
+    ensures { λ r. ⌜ Walked plan (now (readings .entry)) t (now (ws .entry)) (now (ws .exit)) r ⌝ }
+{
+    let mut w = walk;
+    while w.time < t {
+        let x = next_stop(ws, g, w, t);
+        w = go_on(ws, plan, readings, g, w, x, t);
+    }
+    w
+}
+
+// The layer after the first reading, with nothing saved.
+pub fn begin(ws: &mut [u64], plan: Plan, readings: &[i16], g: Shape) -> Walk
+    requires { ⌜ Workspace plan (now readings) g (now ws) ⌝ }
+    ensures { λ r. ⌜ Walked plan (now (readings .entry)) 1 (now (ws .entry)) (now (ws .exit)) r ⌝ }
+{
+    let a = area(g);
+    let saved = empty(16 * a + 12 * (g.levels as usize));
+    restart(ws, plan, readings, g, 0, 8 * a, saved)
+}
+
+// Back to t: from the last layer saved that is not later, and forward again.
+pub fn rewind(ws: &mut [u64], plan: Plan, readings: &[i16], g: Shape, walk: Walk, t: usize) -> Walk
+    requires { ⌜ Workspace plan (now readings) g (now ws) × (At plan (now readings) walk (now ws) × ((1 ≤ t) × (t ≤ walk .time))) ⌝ }
+    ensures { λ r. ⌜ Walked plan (now (readings .entry)) t (now (ws .entry)) (now (ws .exit)) r ⌝ }
+{
+    let saved = walk.saved;
+    let kept = drop_after(saved, t);
+    let w = restart(ws, plan, readings, g, walk.cur, walk.other, kept);
+    advance(ws, plan, readings, g, w, t)
 }

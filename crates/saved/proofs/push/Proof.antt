@@ -1,3 +1,4 @@
+use Rattle.saved.proofs.Stacks.{pushed}
 use borrow.Author.Needs.{needs}
 use Rattle.saved.proofs.push.Statement.{statement}
 use Rattle.saved.proofs.push.Tie as tie
@@ -30,7 +31,7 @@ add-next-2 c = search needs
 
 -- src/lib.rt:174:1
 returns : tie.Need-returns
-returns c = ?
+returns c = pushed (c .args .saved) (c .args .t) (c .args .e) (c .pre .0) (c .pre .1 .0) (c .pre .1 .1)
 
 pub push-spec : {M : Type 1} → statement M
 push-spec =
