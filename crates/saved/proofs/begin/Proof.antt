@@ -1,3 +1,8 @@
+use Rattle.saved.proofs.Walks.{area-is, stack-fits}
+use Rattle.saved.proofs.Stacks.{stack-empty}
+use native.Mathlib.Omega.{arith}
+use mathlib.Core.Path.{refl}
+use mathlib.Core.Logic.{inl}
 use borrow.Author.Needs.{needs}
 use Rattle.saved.proofs.begin.Statement.{statement}
 use Rattle.saved.proofs.begin.Tie as tie
@@ -33,7 +38,7 @@ mul-restart c = search needs
 
 -- src/lib.rt:333:5
 restart-requires : tie.Need-restart-requires
-restart-requires c κs = ?
+restart-requires c κs = (c .before .before .before .before .pre, (inl (refl, omega (arith, area-is (c .before .before .before .before .pre) (c .before .before .area .ensures .0))), stack-empty _ (omega (arith, area-is (c .before .before .before .before .pre) (c .before .before .area .ensures .0), c .before .before .before .before .pre .task .shape .levels)) (stack-fits (c .before .before .before .before .pre)) (c .before .empty .ensures)))
 
 -- src/lib.rt:327:1
 same-length : tie.Need-same-length
@@ -41,7 +46,7 @@ same-length c = search needs
 
 -- src/lib.rt:327:1
 returns : tie.Need-returns
-returns c = ?
+returns c = record { at = c .before .before .restart .ensures .at; time = c .before .before .restart .ensures .first (c .before .before .before .before .empty .ensures .count); inside = c .before .before .restart .ensures .inside }
 
 pub begin-spec : {M : Type 1} → statement M
 begin-spec =

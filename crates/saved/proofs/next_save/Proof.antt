@@ -1,5 +1,6 @@
 use Rattle.saved.proofs.Stacks.{product-low}
 use native.Mathlib.Omega.{arith}
+use Prim.Native.Nat.{_-_}
 use borrow.Author.Needs.{needs}
 use Rattle.saved.proofs.next_save.Statement.{statement}
 use Rattle.saved.proofs.next_save.Tie as tie
@@ -26,7 +27,7 @@ repeats-requires c κs = search needs
 
 -- src/lib.rt:135:13
 mul-x : tie.Need-mul-x
-mul-x c = omega (arith, product-low _ _ (omega (arith, c .before .before .pre)) (omega (arith, c .before .before .pre, c .repeats .ensures)))
+mul-x c = omega (arith, product-low (c .before .before .args .t - c .before .before .args .a) (c .repeats .result) (omega (arith, c .before .before .pre)) (omega (arith, c .before .before .pre, c .repeats .ensures)))
 
 -- src/lib.rt:135:22
 add-x : tie.Need-add-x

@@ -1,3 +1,5 @@
+use Rattle.saved.proofs.Walks.{start-ready, restarted-first, unpack-ready, restarted-top}
+use native.Mathlib.Omega.{arith}
 use borrow.Author.Needs.{needs}
 use Rattle.saved.proofs.restart.Statement.{statement}
 use Rattle.saved.proofs.restart.Tie as tie
@@ -17,7 +19,7 @@ mul-free c = search needs
 
 -- src/lib.rt:221:9
 first-layer-requires : tie.Need-first-layer-requires
-first-layer-requires c κs = ?
+first-layer-requires c κs = start-ready (c .before .before .before .before .pre .0) (c .before .before .before .before .pre .1 .0) (c .before .area .ensures .0)
 
 -- src/lib.rt:222:9
 same-length : tie.Need-same-length
@@ -25,7 +27,7 @@ same-length c = search needs
 
 -- src/lib.rt:222:9
 returns : tie.Need-returns
-returns c = ?
+returns c = restarted-first (c .before .before .before .before .before .before .before .pre .0) (c .before .before .before .before .before .before .before .pre .1 .0) (c .before .before .before .before .before .before .before .pre .1 .1) (c .before .before .before .before .area .ensures .0) (c .before .before .before .before .before .if1 .taken) (c .before .before .first-layer .ensures)
 
 -- src/lib.rt:231:22
 sub-time : tie.Need-sub-time
@@ -57,7 +59,7 @@ mul-unpack c = search needs
 
 -- src/lib.rt:233:5
 unpack-requires : tie.Need-unpack-requires
-unpack-requires c κs = ?
+unpack-requires c κs = unpack-ready (c .before .before .before .before .before .before .pre .0) (c .before .before .before .before .before .before .pre .1 .0) (c .before .before .before .before .before .before .pre .1 .1) (omega (arith, c .before .before .before .before .if1 .left))
 
 -- src/lib.rt:206:1
 same-length-2 : tie.Need-same-length-2
@@ -65,7 +67,7 @@ same-length-2 c = search needs
 
 -- src/lib.rt:206:1
 returns-2 : tie.Need-returns-2
-returns-2 c = ?
+returns-2 c = restarted-top (c .before .before .before .before .before .before .before .before .before .pre .0) (c .before .before .before .before .before .before .before .before .before .pre .1 .0) (c .before .before .before .before .before .before .before .before .before .pre .1 .1) (omega (arith, c .before .before .before .before .before .before .before .if1 .left)) (c .before .before .unpack .ensures)
 
 pub restart-spec : {M : Type 1} → statement M
 restart-spec =

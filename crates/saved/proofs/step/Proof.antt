@@ -1,3 +1,4 @@
+use Rattle.saved.proofs.Walks.{step-ready, stepped-on}
 use borrow.Author.Needs.{needs}
 use Rattle.saved.proofs.step.Statement.{statement}
 use Rattle.saved.proofs.step.Tie as tie
@@ -16,7 +17,7 @@ mul-free c = search needs
 
 -- src/lib.rt:252:5
 next-layer-requires : tie.Need-next-layer-requires
-next-layer-requires c κs = ?
+next-layer-requires c κs = step-ready (c .before .before .before .before .pre .0) (c .before .before .before .before .pre .1 .0) (c .before .area .ensures .0) (c .before .before .before .before .pre .1 .1)
 
 -- src/lib.rt:254:15
 add-t11 : tie.Need-add-t11
@@ -28,7 +29,7 @@ same-length c = search needs
 
 -- src/lib.rt:243:1
 returns : tie.Need-returns
-returns c = ?
+returns c = stepped-on (c .before .before .before .before .before .before .before .pre .0) (c .before .before .before .before .before .before .before .pre .1 .0) (c .before .before .before .before .area .ensures .0) (c .before .before .before .before .before .before .before .pre .1 .1) (c .before .before .next-layer .ensures)
 
 pub step-spec : {M : Type 1} → statement M
 step-spec =
