@@ -8,6 +8,7 @@ use native.Mathlib.Nat.{mul-le-mul, mul-le-mul-right}
 use native.Mathlib.Numerals.{add-one}
 use lib.IntN.{ℤ}
 use lib.ListN.{length, getD}
+use Rattle.integers.specs.Rep.{le-or-lt}
 use Rattle.plan.specs.declared.Plan.{Plan}
 use Rattle.model.specs.Model.{width}
 use Rattle.model.specs.Labels.{counts}
@@ -20,7 +21,7 @@ use Rattle.saved.specs.declared.Walk.{Walk}
 use Rattle.saved.specs.declared.Room.{Room}
 use Rattle.saved.specs.declared.Room.the-variants.{Upto}
 use Rattle.saved.specs.Packed.{Inside, Row, PackReady, Packing, Saves, UnpackReady, Unpacked}
-use Rattle.saved.specs.Walk.{stackAt, limit, Places, Entry, Stack, timeOf, offOf, At, Workspace, Goes, Walked, Pushed, Restarted, Stops}
+use Rattle.saved.specs.Walk.{stackAt, limit, Places, Entry, Stack, timeOf, offOf, At, Workspace, Goes, Walked, Pushed, Dropped, Restarted, Stops}
 use Rattle.saved.proofs.Chains.{inside-then, inside-wider}
 use Rattle.saved.proofs.Stacks.{layer-same, layer-row, layer-packed, packed-layer, off-low, off-high, stack-same, stack-pushed}
 
@@ -185,3 +186,9 @@ module _ {P : Plan} {zs : List ℤ} {g : Shape} {ws : List ℕ} (a : Workspace P
           where
             u : Packing ws ws′ (w .cur) (offOf (w .saved) (w .saved .count)) n (counts * P .states) (width P)
             u = rw (a .task .shape .states, a .task .shape .levels) at (m .upto n z .1)
+
+-- ---- going back
+
+-- it starts again no later than t
+pub starts-early : {P : Plan} {zs : List ℤ} {s r : Saved} {t : ℕ} {ws ws′ : List ℕ} {w : Walk} → Dropped s t r → Restarted P zs r ws ws′ w → 1 ≤ t → w .time ≤ t
+starts-early {r = r} d m h = ⊎-elim (λ p. omega (arith, m .loaded p, d .top p)) (λ p. omega (arith, m .first (omega arith))) (le-or-lt 1 (r .count))

@@ -1,3 +1,6 @@
+use Rattle.saved.proofs.Walks.{space-then, pack-ready, saves-inside, still-at, pushed-at}
+use Rattle.saved.proofs.Chains.{inside-then}
+use native.Mathlib.Omega.{arith}
 use borrow.Author.Needs.{needs}
 use Rattle.saved.proofs.go_on.Statement.{statement}
 use Rattle.saved.proofs.go_on.Tie as tie
@@ -50,7 +53,7 @@ mul-pack c = search needs
 
 -- src/lib.rt:298:9
 pack-requires : tie.Need-pack-requires
-pack-requires c κs = ?
+pack-requires c κs = pack-ready (space-then (c .before .before .before .before .before .before .before .before .before .before .before .before .pre .space) (c .before .before .before .before .before .before .before .before .before .forward .ensures .inside .size)) (c .before .before .before .before .before .before .before .before .before .forward .ensures .at) (c .before .before .area .ensures .0)
 
 -- src/lib.rt:300:23
 enum-told : tie.Need-enum-told
@@ -70,7 +73,9 @@ same-length-3 c = search needs
 
 -- src/lib.rt:274:1
 returns-3 : tie.Need-returns-3
-returns-3 c = ?
+returns-3 c = let a = space-then (c .before .before .before .before .before .before .before .before .before .before .before .before .before .before .before .before .before .pre .space) (c .before .before .before .before .before .before .before .before .before .before .before .before .before .before .forward .ensures .inside .size) in
+    record { at = still-at a (c .before .before .before .before .before .before .before .before .before .before .before .before .before .before .forward .ensures .at) (c .before .before .before .before .before .before .before .area .ensures .0) (c .before .before .before .before .pack .ensures); time = c .before .before .before .before .before .before .before .before .before .before .before .before .before .before .forward .ensures .time;
+    inside = inside-then (c .before .before .before .before .before .before .before .before .before .before .before .before .before .before .forward .ensures .inside) (saves-inside a (c .before .before .before .before .before .before .before .before .before .before .before .before .before .before .forward .ensures .at) (c .before .before .before .before .before .before .before .area .ensures .0) (c .before .before .before .before .pack .ensures)) }
 
 -- src/lib.rt:274:1
 same-length-4 : tie.Need-same-length-4
@@ -78,7 +83,9 @@ same-length-4 c = search needs
 
 -- src/lib.rt:274:1
 returns-4 : tie.Need-returns-4
-returns-4 c = ?
+returns-4 c = let a = space-then (c .before .before .before .before .before .before .before .before .before .before .before .before .before .before .before .before .before .before .before .pre .space) (c .before .before .before .before .before .before .before .before .before .before .before .before .before .before .before .before .forward .ensures .inside .size) in
+    record { at = pushed-at a (c .before .before .before .before .before .before .before .before .before .before .before .before .before .before .before .before .forward .ensures .at) (c .before .before .before .before .before .before .before .before .before .area .ensures .0) (c .before .before .before .before .before .before .pack .ensures) (c .before .before .room .given .1) (omega (arith, c .before .before .before .before .before .before .before .before .before .before .before .if2 .left)) (c .push .ensures); time = c .before .before .before .before .before .before .before .before .before .before .before .before .before .before .before .before .forward .ensures .time;
+    inside = inside-then (c .before .before .before .before .before .before .before .before .before .before .before .before .before .before .before .before .forward .ensures .inside) (saves-inside a (c .before .before .before .before .before .before .before .before .before .before .before .before .before .before .before .before .forward .ensures .at) (c .before .before .before .before .before .before .before .before .before .area .ensures .0) (c .before .before .before .before .before .before .pack .ensures)) }
 
 pub go-on-spec : {M : Type 1} → statement M
 go-on-spec =
