@@ -1,18 +1,18 @@
 -- Lists packed end to end. Assumes nothing.
-use mathlib.Core.Path.{_≡_, refl, sym, _∙_, ap, subst}
-use mathlib.Core.Logic.{_⊎_, inl, inr, ⊎-elim}
+use mathlib.Core.Path.{_≡_, refl, sym, _∙_, subst}
+use mathlib.Core.Logic.{inl, inr, ⊎-elim}
 use mathlib.Core.List.{List}
-use Prim.Native.Nat.{ℕ, zero, suc, _+_, _*_, _≤_, _<_}
+use Prim.Native.Nat.{ℕ, suc, _+_, _*_, _≤_, _<_}
 use native.Mathlib.Omega.{arith}
 use native.Mathlib.Nat.{mul-le-mul-right}
 use native.Mathlib.Numerals.{add-one}
 use lib.ListN.{length, getD}
 use Rattle.integers.specs.Rep.{le-or-lt}
 use Rattle.curve.specs.Pieces.{Formed, Built, Is, Held, Kept, Same, Copyable, Copied, piece}
-use Rattle.curve.specs.Lists.{opened, same-built, kept-same, count-same, count-most, count-is, copied-built}
-use Rattle.curve.specs.Curve.{Curve, curve-same, copied-curve}
+use Rattle.curve.specs.Lists.{opened, same-built, count-same, count-most, count-is, copied-built}
+use Rattle.curve.specs.Curve.{curve-same, copied-curve}
 use Rattle.saved.specs.declared.Room.the-variants.{Upto, Full}
-use Rattle.saved.specs.Packed.{Chain, Moved, Inside, Row, PackReady, Packing, Saves, UnpackReady, Unpacked}
+use Rattle.saved.specs.Packed.{Chain, Moved, Inside, PackReady, Packing, Saves, UnpackReady, Unpacked}
 use Rattle.saved.specs.Packed.Chain.{nothing, then}
 
 -- ---- what is kept
@@ -74,7 +74,7 @@ pub chain-next : {L : ℕ} {ws : List ℕ} {a n e q m : ℕ} → Chain L ws a n 
 chain-next nothing d h = absurd (omega arith)
 chain-next {L} {ws} {a} {n} {e} {q} {m} (then {n = n′} {m = m′} c k x) d h = ⊎-elim
     (λ p. let s : q ≡ n′ = omega arith in
-        subst (λ (y : ℕ). ListBy L ws y e) (chain-one c (subst (λ (y : ℕ). Chain L ws a y m) s d)) (record { held = k; by = omega arith }))
+    subst (λ (y : ℕ). ListBy L ws y e) (chain-one c (subst (λ (y : ℕ). Chain L ws a y m) s d)) (record { held = k; by = omega arith }))
     (λ p. let b = chain-next c d p in record { held = b .held; by = omega (arith, b .by) })
     (le-or-lt n′ q)
 
@@ -123,10 +123,15 @@ module _ {ws : List ℕ} {o a limit n L : ℕ} (ready : PackReady ws o a limit n
     module _ {r to : ℕ} (b : Built (Is (piece w (o + q * (4 * L)) L)) w (o + q * (4 * L)) r L) (low : a ≤ to) (fits : to + 4 * r ≤ limit) where
       pub pack-copies : Copyable w (o + q * (4 * L)) to L × (L ≤ 262144)
       pack-copies =
-          let e = count-is b (source .formed) in
-          (record {
-            formed = source .formed; room = source .room; into = omega (arith, ready .room, m .size);
-            apart = inl (omega (arith, place-low, count-most (source .formed))) }, omega (arith, ready .row .narrow))
+          let e = count-is b (source .formed) in (
+            record {
+              formed = source .formed;
+              room = source .room;
+              into = omega (arith, ready .room, m .size);
+              apart = inl (omega (arith, place-low, count-most (source .formed)));
+            },
+            omega (arith, ready .row .narrow),
+          )
 
       module _ {w′ : List ℕ} {r′ : ℕ} (c : Copied w w′ (o + q * (4 * L)) to L r′) (p : Packing ws w o a to q L) where
         same-count : r′ ≡ r
@@ -176,9 +181,15 @@ module _ {ws : List ℕ} {a o n L : ℕ} (ready : UnpackReady ws a o n L) {q : �
   stored = held-same (m .inside .size) (listed .held) saved-still
 
   pub unpack-copies : Copyable w from (o + q * (4 * L)) L × (L ≤ 262144)
-  unpack-copies = (record {
-      formed = stored .formed; room = stored .room; into = omega (arith, room-low, ready .start, m .inside .size, count-most (stored .formed));
-      apart = inr (omega (arith, room-low, chain-low d, count-most (stored .formed))) }, omega (arith, ready .narrow))
+  unpack-copies = (
+    record {
+      formed = stored .formed;
+      room = stored .room;
+      into = omega (arith, room-low, ready .start, m .inside .size, count-most (stored .formed));
+      apart = inr (omega (arith, room-low, chain-low d, count-most (stored .formed)));
+    },
+    omega (arith, ready .narrow),
+  )
 
   module _ {w′ : List ℕ} {r : ℕ} (c : Copied w w′ from (o + q * (4 * L)) L r) where
     its-count : r ≡ listed .held .formed .count
@@ -198,9 +209,11 @@ module _ {ws : List ℕ} {a o n L : ℕ} (ready : UnpackReady ws a o n L) {q : �
     }
       where
         old : (i : ℕ) → i < q → (m : ℕ) → Chain L ws a i m → Moved L ws m w′ (o + i * (4 * L))
-        old i g m′ e = record { curve = λ A B base F x.
-            let y = m .moved i m′ g e .curve A B base F x in
-            curve-same (c .kept .size) y (record { word = λ j u v. c .kept .before j (omega (arith, count-most (y .held .formed), mul-le-mul-right (4 * L) g)) }) }
+        old i g m′ e = record {
+          curve = λ A B base F x.
+              let y = m .moved i m′ g e .curve A B base F x in
+              curve-same (c .kept .size) y (record { word = λ j u v. c .kept .before j (omega (arith, count-most (y .held .formed), mul-le-mul-right (4 * L) g)) });
+        }
 
         new : (m : ℕ) → Chain L ws a q m → Moved L ws m w′ (o + q * (4 * L))
         new m′ e = subst (λ (y : ℕ). Moved L ws y w′ (o + q * (4 * L))) (chain-one d e)

@@ -1,6 +1,6 @@
 -- The stack of saved layers: its table, and what its entries hold. Assumes nothing.
 use mathlib.Core.Path.{_≡_, refl, sym, _∙_, ap, subst}
-use mathlib.Core.Logic.{_⊎_, inl, inr, ⊎-elim}
+use mathlib.Core.Logic.{⊎-elim}
 use mathlib.Core.List.{List}
 use Prim.Native.Nat.{ℕ, zero, suc, _+_, _-_, _*_, _/_, _%_, _≤_, _<_}
 use native.Mathlib.Omega.{arith}
@@ -52,10 +52,12 @@ list-number S k s hk hs = omega (arith, mul-le-mul-right S hk)
 
 module _ {P : Plan} {zs : List ℤ} {t : ℕ} where
   pub layer-same : {ws ws′ : List ℕ} {o : ℕ} → length ws′ ≡ length ws → ((i : ℕ) → o ≤ i → i < o + layerWords P → getD ws′ i 0 ≡ getD ws i 0) → Layer P zs t ws o → Layer P zs t ws′ o
-  layer-same {o = o} e f y = record { list = λ k s hk hs.
-      let b = list-within o (P .states) (width P) k s hk hs in
-      let c = y .list k s hk hs in
-      curve-same e c (record { word = λ i u v. f i (omega arith) (omega (arith, count-most (c .held .formed))) }) }
+  layer-same {o = o} e f y = record {
+    list = λ k s hk hs.
+        let b = list-within o (P .states) (width P) k s hk hs in
+        let c = y .list k s hk hs in
+        curve-same e c (record { word = λ i u v. f i (omega arith) (omega (arith, count-most (c .held .formed))) });
+  }
 
   -- its lists in their order
   pub layer-row : {ws : List ℕ} {o : ℕ} → 1 ≤ P .states → P .states ≤ 8 → width P ≤ 1024 → Layer P zs t ws o → Row ws o (counts * P .states) (width P)
@@ -79,10 +81,12 @@ module _ {P : Plan} {zs : List ℤ} {t : ℕ} where
 
   pub packed-layer : {ws ws′ : List ℕ} {o a e : ℕ} → Packed P zs t ws a e → Unpacked ws ws′ a o (counts * P .states) (width P) → Layer P zs t ws′ o
   unfolding listAt
-  packed-layer y p = record { list = λ k s hk hs.
-      let n = list-number (P .states) k s hk hs in
-      let d = chain-part (k * P .states + s) (y .chain) (omega arith) in
-      p .moved (k * P .states + s) (d .end) n (d .chain) .curve _ _ _ _ (y .list k s (d .end) hk hs (d .chain)) }
+  packed-layer y p = record {
+    list = λ k s hk hs.
+        let n = list-number (P .states) k s hk hs in
+        let d = chain-part (k * P .states + s) (y .chain) (omega arith) in
+        p .moved (k * P .states + s) (d .end) n (d .chain) .curve _ _ _ _ (y .list k s (d .end) hk hs (d .chain));
+  }
 
   pub packed-same : {ws ws′ : List ℕ} {a e : ℕ} → length ws′ ≡ length ws → ((i : ℕ) → a ≤ i → i < e → getD ws′ i 0 ≡ getD ws i 0) → Packed P zs t ws a e → Packed P zs t ws′ a e
   packed-same {ws} {ws′} {a} {e} z f y = record { chain = there; list = each }
@@ -119,7 +123,11 @@ module _ {P : Plan} {zs : List ℤ} {s : Saved} where
 
     pub stack-same : {ws′ : List ℕ} → length ws′ ≡ length ws → ((i : ℕ) → stackAt P ≤ i → i < offOf s (s .count) → getD ws′ i 0 ≡ getD ws i 0) → Stack P zs s ws′
     stack-same z f = record {
-      times = k .times; offs = k .offs; few = k .few; first = k .first; top = k .top;
+      times = k .times;
+      offs = k .offs;
+      few = k .few;
+      first = k .first;
+      top = k .top;
       entry = λ i h. let y = k .entry i h in record {
         some = y .some;
         most = y .most;
@@ -155,4 +163,10 @@ module _ {P : Plan} {zs : List ℤ} {s : Saved} where
 
   pub stack-empty : {a : ℕ} (ws : List ℕ) → a ≡ stackAt P → stackAt P ≤ limit P → Empty a s → Stack P zs s ws
   stack-empty ws e h m = record {
-    times = m .times; offs = m .offs; few = omega (arith, m .count); first = m .off ∙ e; top = rw (m .count) (omega (arith, m .off)); entry = λ i g. absurd (omega (arith, m .count)) }
+    times = m .times;
+    offs = m .offs;
+    few = omega (arith, m .count);
+    first = m .off ∙ e;
+    top = rw (m .count) (omega (arith, m .off));
+    entry = λ i g. absurd (omega (arith, m .count));
+  }

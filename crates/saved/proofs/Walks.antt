@@ -1,8 +1,8 @@
 -- Walks: what each step asks of the layers and the stack, and what it leaves of them. Assumes nothing.
-use mathlib.Core.Path.{_≡_, refl, sym, _∙_, ap, subst}
-use mathlib.Core.Logic.{_⊎_, inl, inr, ⊎-elim}
+use mathlib.Core.Path.{_≡_, refl, sym, subst}
+use mathlib.Core.Logic.{inl, inr, ⊎-elim}
 use mathlib.Core.List.{List}
-use Prim.Native.Nat.{ℕ, zero, suc, _+_, _-_, _*_, _≤_, _<_}
+use Prim.Native.Nat.{ℕ, suc, _+_, _-_, _*_, _≤_, _<_}
 use native.Mathlib.Omega.{arith}
 use native.Mathlib.Nat.{mul-le-mul, mul-le-mul-right}
 use native.Mathlib.Numerals.{add-one}
@@ -13,16 +13,16 @@ use Rattle.plan.specs.declared.Plan.{Plan}
 use Rattle.model.specs.Model.{width}
 use Rattle.model.specs.Labels.{counts}
 use Rattle.layers.specs.declared.Shape.{Shape}
-use Rattle.layers.specs.Layer.{ShapeOf, Layer}
-use Rattle.layers.specs.Next.{Task, layerWords, StepReady, Stepped, StartReady}
+use Rattle.layers.specs.Layer.{Layer}
+use Rattle.layers.specs.Next.{layerWords, StepReady, Stepped, StartReady}
 use Rattle.layers.proofs.Next.{shape-small}
 use Rattle.saved.specs.declared.Saved.{Saved}
 use Rattle.saved.specs.declared.Walk.{Walk}
 use Rattle.saved.specs.declared.Room.{Room}
 use Rattle.saved.specs.declared.Room.the-variants.{Upto}
 use Rattle.saved.specs.Packed.{Inside, Row, PackReady, Packing, Saves, UnpackReady, Unpacked}
-use Rattle.saved.specs.Walk.{stackAt, limit, Places, Entry, Stack, timeOf, offOf, At, Workspace, Goes, Walked, Pushed, Dropped, Restarted, Stops}
-use Rattle.saved.proofs.Chains.{inside-then, inside-wider}
+use Rattle.saved.specs.Walk.{stackAt, limit, Places, Entry, Stack, timeOf, offOf, At, Workspace, Walked, Pushed, Dropped, Restarted, Stops}
+use Rattle.saved.proofs.Chains.{inside-wider}
 use Rattle.saved.proofs.Stacks.{layer-same, layer-row, layer-packed, packed-layer, off-low, off-high, stack-same, stack-pushed}
 
 pub space-then : {P : Plan} {zs : List ℤ} {g : Shape} {ws ws′ : List ℕ} → Workspace P zs g ws → length ws′ ≡ length ws → Workspace P zs g ws′

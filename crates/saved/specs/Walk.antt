@@ -98,7 +98,7 @@ pub record Pushed (s : Saved) (t e : ℕ) (r : Saved) : Type 0 where
   pub old-time : (i : ℕ) → i < s .count → timeOf r i ≡ timeOf s i
   pub old-off : (i : ℕ) → i ≤ s .count → offOf r i ≡ offOf s i
 
--- the entries up to t, where their times rise
+-- the table is cut below the top entries that are later than t
 pub record Dropped (s : Saved) (t : ℕ) (r : Saved) : Type 0 where
   pub time : r .time ≡ s .time
   pub off : r .off ≡ s .off

@@ -6,17 +6,20 @@
 use layers::Shape;
 use plan::Plan;
 ghost use mathlib.Core.Path.{_≡_};
-ghost use Prim.Native.Nat.{ℕ, suc, _+_, _*_, _≤_, _<_};
+ghost use Prim.Native.Nat.{_+_, _*_, _≤_, _<_};
 ghost use lib.ListN.{length};
 ghost use Rattle.layers.specs.Layer.{Shape-small};
 ghost use Rattle.saved.specs.Packed.{Row, PackReady, Saves, UnpackReady, Unpacked};
 ghost use Rattle.saved.specs.Walk.{Workspace, At, Goes, Walked, Places, Stack, Pushed, Dropped, Restarted, Stops, Empty};
 
+// The most layers that are saved.
+pub const SLOTS: usize = 96;
+
 // Entry i: the layer after time[i] readings, packed in the words from off[i] up to off[i + 1].
 pub struct Saved {
     pub count: usize,
-    pub time: [usize; 96],
-    pub off: [usize; 97],
+    pub time: [usize; SLOTS],
+    pub off: [usize; SLOTS + 1],
 }
 
 // The layer after `time` readings stands at cur; other is where the other layer has its place.
@@ -33,7 +36,7 @@ pub enum Room {
     Full,
 }
 
-// The words of one list of each level's piece for each state are four times this.
+// States times levels: S · L above.
 fn area(g: Shape) -> usize
     requires { ⌜ Shape-small g ⌝ }
     ensures { λ r. ⌜ (r ≡ g .states * g .levels) × (r ≤ 8192) ⌝ }
@@ -41,7 +44,7 @@ fn area(g: Shape) -> usize
     g.states * (g.levels as usize)
 }
 
-// The n lists from o on, packed from at on as far as limit.
+// The n lists from o on, packed from at on, unless they reach past limit.
 fn pack(ws: &mut [u64], o: usize, at: usize, limit: usize, n: usize, levels: u64) -> Room
     requires { ⌜ PackReady (now ws) o at limit n levels ⌝ }
     ensures { λ r. ⌜ Saves (now (ws .entry)) (now (ws .exit)) o at limit n levels r ⌝ }
@@ -93,8 +96,7 @@ fn words_of(ws: &[u64], o: usize, n: usize, levels: u64) -> usize
     sum
 }
 
-// The least number r with binomial(c + r, r) ≥ d, which is at most d: with c layers at hand, d steps are walked back with each made at
-// most r times.
+// The least r with binomial(c + r, r) ≥ d: with c layers at hand, d steps can be walked back so that none is made more than r times.
 fn repeats(d: usize, c: usize) -> usize
     requires { ⌜ (d ≤ 4096) × (c ≤ 4096) ⌝ }
     ensures { λ r. ⌜ r ≤ d ⌝ }
@@ -155,7 +157,7 @@ fn next_stop(ws: &[u64], g: Shape, walk: Walk, t: usize) -> usize
     let off = saved.off;
     let free = 48 * area(g) - off[n];
     let words = words_of(ws, walk.cur, labels::COUNTS * g.states, g.levels);
-    let c = free_slots(words, free, 96 - n);
+    let c = free_slots(words, free, SLOTS - n);
     next_save(walk.time, t, c)
 }
 
@@ -165,8 +167,8 @@ fn empty(first: usize) -> Saved
 {
     Saved {
         count: 0,
-        time: [0; 96],
-        off: [first; 97],
+        time: [0; SLOTS],
+        off: [first; SLOTS + 1],
     }
 }
 
@@ -239,35 +241,29 @@ fn restart(
     }
 }
 
-// One reading further.
-fn step(ws: &mut [u64], plan: Plan, readings: &[i16], g: Shape, walk: Walk) -> Walk
-    requires { ⌜ Workspace plan (now readings) g (now ws) × (At plan (now readings) walk (now ws) × (walk .time < length (now readings))) ⌝ }
-    ensures { λ r. ⌜ Walked plan (now (readings .entry)) (walk .time + 1) (now (ws .entry)) (now (ws .exit)) r ⌝ }
-{
-    let time = walk.time;
-    let cur = walk.cur;
-    let other = walk.other;
-    let saved = walk.saved;
-    let free = 16 * area(g);
-    layers::next_layer(ws, plan, readings, time, cur, other, free, g);
-    Walk {
-        time: time + 1,
-        cur: other,
-        other: cur,
-        saved,
-    }
-}
-
 // Forward to x, with nothing saved on the way.
 fn forward(ws: &mut [u64], plan: Plan, readings: &[i16], g: Shape, walk: Walk, x: usize) -> Walk
     requires { ⌜ Goes plan (now readings) g walk x (now ws) ⌝ }
     ensures { λ r. ⌜ Walked plan (now (readings .entry)) x (now (ws .entry)) (now (ws .exit)) r ⌝ }
 {
-    let mut w = walk;
-    while w.time < x {
-        w = step(ws, plan, readings, g, w);
+    let free = 16 * area(g);
+    let saved = walk.saved;
+    let mut time = walk.time;
+    let mut cur = walk.cur;
+    let mut other = walk.other;
+    while time < x {
+        layers::next_layer(ws, plan, readings, time, cur, other, free, g);
+        let last = cur;
+        cur = other;
+        other = last;
+        time += 1;
     }
-    w
+    Walk {
+        time,
+        cur,
+        other,
+        saved,
+    }
 }
 
 // Forward to x, where the layer is saved if it is not the last on the way to t and there is room.
@@ -289,7 +285,7 @@ fn go_on(
     }
     let saved = w.saved;
     let n = saved.count;
-    if 96 <= n {
+    if SLOTS <= n {
         return w;
     }
     let off = saved.off;

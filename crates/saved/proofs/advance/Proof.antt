@@ -1,16 +1,12 @@
-use Rattle.saved.proofs.Walks.{space-then, stops}
-use Rattle.saved.proofs.Chains.{inside-refl, inside-then}
-use Rattle.saved.specs.Walk.{limit, At}
-use Rattle.saved.specs.Packed.{Inside}
-use native.Mathlib.Omega.{arith}
+-- `saved::advance`: at a time up to t. Assumes nothing.
 use Prim.Native.Nat.{_-_, _≤_}
-use borrow.Author.Needs.{needs}
+use native.Mathlib.Omega.{arith}
+use Rattle.saved.specs.Packed.{Inside}
+use Rattle.saved.specs.Walk.{limit, At}
+use Rattle.saved.proofs.Chains.{inside-refl, inside-then}
+use Rattle.saved.proofs.Walks.{space-then, stops}
 use Rattle.saved.proofs.advance.Statement.{statement}
 use Rattle.saved.proofs.advance.Tie as tie
-use Rattle.saved.proofs.advance.Reads as reads
-use Rattle.saved.proofs.advance.Lts as lts
-use Rattle.saved.proofs.go_on.Reads as go-on-reads
-use Rattle.saved.proofs.next_stop.Reads as next-stop-reads
 
 abbrev Inv-loop : tie.InvT-loop
 Inv-loop ws₀ plan readings g t w₀ ws w = (w .time ≤ t) × (At plan readings w ws × Inside 0 (limit plan) ws₀ ws)
@@ -18,31 +14,24 @@ Inv-loop ws₀ plan readings g t w₀ ws w = (w .time ≤ t) × (At plan reading
 abbrev μ-loop : tie.MeasureT-loop
 μ-loop ws₀ plan readings g t w₀ ws w = t - w .time
 
--- src/lib.rt:319:5
 loop-holds : tie.Need-loop-holds Inv-loop μ-loop
 loop-holds c = (c .before .pre .from, (c .before .pre .at, inside-refl _ _ _))
 
--- src/lib.rt:320:13
 next-stop-requires : tie.Need-next-stop-requires Inv-loop μ-loop
 next-stop-requires c κs = stops (space-then (c .before .before .before .before .before .pre .space) (c .before .before .before .loop .inv .1 .1 .size)) (c .before .before .before .loop .inv .1 .0) (c .before .if1 .taken) (c .before .before .before .before .before .pre .most)
 
--- src/lib.rt:321:9
 go-on-requires : tie.Need-go-on-requires Inv-loop μ-loop
 go-on-requires c κs = record { space = space-then (c .before .before .before .before .before .before .before .pre .space) (c .before .before .before .before .before .loop .inv .1 .1 .size); at = c .before .before .before .before .before .loop .inv .1 .0; from = omega (arith, c .before .next-stop .ensures .0); most = omega (arith, c .before .next-stop .ensures .1, c .before .before .before .before .before .before .before .pre .most) }
 
--- src/lib.rt:319:5
 loop-less : tie.Need-loop-less Inv-loop μ-loop
 loop-less c = omega (arith, c .before .before .before .before .before .before .if1 .taken, c .before .before .before .before .next-stop .ensures, c .before .before .go-on .ensures .time)
 
--- src/lib.rt:319:5
 loop-again : tie.Need-loop-again Inv-loop μ-loop
 loop-again c = (omega (arith, c .before .before .before .before .next-stop .ensures, c .before .before .go-on .ensures .time), (c .before .before .go-on .ensures .at, inside-then (c .before .before .before .before .before .before .before .before .loop .inv .1 .1) (c .before .before .go-on .ensures .inside)))
 
--- src/lib.rt:314:1
 same-length : tie.Need-same-length Inv-loop μ-loop
 same-length c = c .before .before .loop .inv .1 .1 .size
 
--- src/lib.rt:314:1
 returns : tie.Need-returns Inv-loop μ-loop
 returns c = record { at = c .before .before .loop .inv .1 .0; time = omega (arith, c .if1 .left, c .before .before .loop .inv .0); inside = c .before .before .loop .inv .1 .1 }
 

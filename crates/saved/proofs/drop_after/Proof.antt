@@ -1,11 +1,10 @@
-use Prim.Native.Nat.{ℕ, _+_, _-_, _*_, _≤_}
+-- `saved::drop_after`: the table is as it was, and the top entry is no later than t. Assumes nothing.
 use mathlib.Core.Path.{_≡_, refl}
+use Prim.Native.Nat.{_≤_}
 use native.Mathlib.Omega.{arith}
 use borrow.Author.Needs.{needs}
 use Rattle.saved.proofs.drop_after.Statement.{statement}
 use Rattle.saved.proofs.drop_after.Tie as tie
-use Rattle.saved.proofs.drop_after.Reads as reads
-use Rattle.saved.proofs.drop_after.Lts as lts
 
 abbrev Inv-loop : tie.InvT-loop
 Inv-loop t time next₀ n₀ next n = (n ≤ n₀) × ((next .time ≡ next₀ .time) × (next .off ≡ next₀ .off))
@@ -13,39 +12,30 @@ Inv-loop t time next₀ n₀ next n = (n ≤ n₀) × ((next .time ≡ next₀ .
 abbrev μ-loop : tie.MeasureT-loop
 μ-loop t time next₀ n₀ next n = n
 
--- src/lib.rt:194:5
 loop-holds : tie.Need-loop-holds Inv-loop μ-loop
 loop-holds c = (omega arith, (refl, refl))
 
--- src/lib.rt:195:17
 sub-if1 : tie.Need-sub-if1 Inv-loop μ-loop
 sub-if1 c = search needs
 
--- src/lib.rt:195:12
 mul-if1 : tie.Need-mul-if1 Inv-loop μ-loop
 mul-if1 c = omega (arith, c .loop-test .taken, c .before .loop .inv .0, c .before .before .before .pre)
 
--- src/lib.rt:195:12
 array-read-if1 : tie.Need-array-read-if1 Inv-loop μ-loop
 array-read-if1 c = omega (arith, c .loop-test .taken, c .before .loop .inv .0, c .before .before .before .pre)
 
--- src/lib.rt:197:13
 returns : tie.Need-returns Inv-loop μ-loop
 returns c = record { time = c .before .before .loop .inv .1 .0; off = c .before .before .loop .inv .1 .1; count = c .before .before .loop .inv .0; top = λ h. rw (c .before .before .loop .inv .1 .0) (c .if1 .taken) }
 
--- src/lib.rt:199:9
 sub-n : tie.Need-sub-n Inv-loop μ-loop
 sub-n c = search needs
 
--- src/lib.rt:194:5
 loop-less : tie.Need-loop-less Inv-loop μ-loop
 loop-less c = omega (arith, c .before .loop-test .taken)
 
--- src/lib.rt:194:5
 loop-again : tie.Need-loop-again Inv-loop μ-loop
 loop-again c = (omega (arith, c .before .loop-test .taken, c .before .before .loop .inv .0), c .before .before .loop .inv .1)
 
--- src/lib.rt:187:1
 returns-2 : tie.Need-returns-2 Inv-loop μ-loop
 returns-2 c = record { time = c .before .loop .inv .1 .0; off = c .before .loop .inv .1 .1; count = omega arith; top = λ h. absurd (omega arith) }
 

@@ -1,47 +1,60 @@
-use Rattle.saved.proofs.Walks.{space-then}
-use Rattle.saved.proofs.Chains.{inside-refl, inside-then}
-use Rattle.saved.specs.Walk.{limit, At}
-use Rattle.saved.specs.Packed.{Inside}
-use native.Mathlib.Omega.{arith}
+-- `saved::forward`: at a time up to x. Assumes nothing.
 use Prim.Native.Nat.{_-_, _≤_}
-use borrow.Author.Needs.{needs}
+use native.Mathlib.Omega.{arith}
+use Rattle.layers.proofs.Next.{shape-small}
+use Rattle.saved.specs.Packed.{Inside}
+use Rattle.saved.specs.Walk.{limit, At}
+use Rattle.saved.proofs.Chains.{inside-refl, inside-then}
+use Rattle.saved.proofs.Walks.{space-then, step-ready, stepped-on}
 use Rattle.saved.proofs.forward.Statement.{statement}
 use Rattle.saved.proofs.forward.Tie as tie
-use Rattle.saved.proofs.forward.Reads as reads
-use Rattle.saved.proofs.forward.Lts as lts
-use Rattle.saved.proofs.step.Reads as step-reads
 
 abbrev Inv-loop : tie.InvT-loop
-Inv-loop ws₀ plan readings g x w₀ ws w = (w .time ≤ x) × (At plan readings w ws × Inside 0 (limit plan) ws₀ ws)
+Inv-loop ws₀ plan readings g x free saved time₀ cur₀ other₀ ws time cur other = (time ≤ x) × (At plan readings (record { time = time; cur = cur; other = other; saved = saved }) ws × Inside 0 (limit plan) ws₀ ws)
 
 abbrev μ-loop : tie.MeasureT-loop
-μ-loop ws₀ plan readings g x w₀ ws w = x - w .time
+μ-loop ws₀ plan readings g x free saved time₀ cur₀ other₀ ws time cur other = x - time
 
--- src/lib.rt:267:5
+area-requires : tie.Need-area-requires Inv-loop μ-loop
+area-requires c κs = shape-small (c .before .pre .space .task)
+
+mul-free : tie.Need-mul-free Inv-loop μ-loop
+mul-free c = omega (arith, c .area .ensures)
+
 loop-holds : tie.Need-loop-holds Inv-loop μ-loop
-loop-holds c = (c .before .pre .from, (c .before .pre .at, inside-refl _ _ _))
+loop-holds c = (c .before .before .before .pre .from, (c .before .before .before .pre .at, inside-refl _ _ _))
 
--- src/lib.rt:268:9
-step-requires : tie.Need-step-requires Inv-loop μ-loop
-step-requires c κs = (space-then (c .before .before .before .before .before .pre .space) (c .before .before .before .loop .inv .1 .1 .size), (c .before .before .before .loop .inv .1 .0, omega (arith, c .before .if1 .taken, c .before .before .before .before .before .pre .most)))
+next-layer-requires : tie.Need-next-layer-requires Inv-loop μ-loop
+next-layer-requires c κs = step-ready (space-then (c .before .before .before .before .before .before .pre .space) (c .before .before .loop .inv .1 .1 .size)) (c .before .before .loop .inv .1 .0) (c .before .before .before .before .area .ensures .0) (omega (arith, c .before .loop-test .taken, c .before .before .before .before .before .before .pre .most))
 
--- src/lib.rt:267:5
+add-time : tie.Need-add-time Inv-loop μ-loop
+add-time c = omega (arith, c .before .before .before .before .loop-test .taken, c .before .before .before .before .before .before .before .before .before .pre .most, c .before .before .before .before .before .before .before .before .before .pre .space .task .most)
+
 loop-less : tie.Need-loop-less Inv-loop μ-loop
-loop-less c = omega (arith, c .before .before .before .before .if1 .taken, c .before .before .step .ensures .time)
+loop-less c = omega (arith, c .before .before .before .before .loop-test .taken)
 
--- src/lib.rt:267:5
 loop-again : tie.Need-loop-again Inv-loop μ-loop
-loop-again c = (omega (arith, c .before .before .before .before .if1 .taken, c .before .before .step .ensures .time), (c .before .before .step .ensures .at, inside-then (c .before .before .before .before .before .before .loop .inv .1 .1) (c .before .before .step .ensures .inside)))
+loop-again c = let s = stepped-on (space-then (c .before .before .before .before .before .before .before .before .before .pre .space) (c .before .before .before .before .before .loop .inv .1 .1 .size)) (c .before .before .before .before .before .loop .inv .1 .0) (c .before .before .before .before .before .before .before .area .ensures .0) (omega (arith, c .before .before .before .before .loop-test .taken, c .before .before .before .before .before .before .before .before .before .pre .most)) (c .before .before .next-layer .ensures) in
+    (omega (arith, c .before .before .before .before .loop-test .taken), (s .at, inside-then (c .before .before .before .before .before .loop .inv .1 .1) (s .inside)))
 
--- src/lib.rt:262:1
 same-length : tie.Need-same-length Inv-loop μ-loop
-same-length c = c .before .before .loop .inv .1 .1 .size
+same-length c = c .before .loop .inv .1 .1 .size
 
--- src/lib.rt:262:1
 returns : tie.Need-returns Inv-loop μ-loop
-returns c = record { at = c .before .before .loop .inv .1 .0; time = omega (arith, c .if1 .left, c .before .before .loop .inv .0); inside = c .before .before .loop .inv .1 .1 }
+returns c = record { at = c .before .loop .inv .1 .0; time = omega (arith, c .loop-test .left, c .before .loop .inv .0); inside = c .before .loop .inv .1 .1 }
 
 pub forward-spec : {M : Type 1} → statement M
 forward-spec =
     tie.close
-    (tie.spec Inv-loop μ-loop loop-holds step-requires loop-less loop-again same-length returns)
+    (tie.spec
+    Inv-loop
+    μ-loop
+    area-requires
+    mul-free
+    loop-holds
+    next-layer-requires
+    add-time
+    loop-less
+    loop-again
+    same-length
+    returns)

@@ -1,33 +1,24 @@
-use Rattle.saved.proofs.Walks.{space-then, starts-early}
-use Rattle.saved.proofs.Stacks.{stack-dropped}
-use Rattle.saved.proofs.Chains.{inside-then}
+-- `saved::rewind`: from an entry no later than t, forward to t. Assumes nothing.
 use native.Mathlib.Omega.{arith}
 use borrow.Author.Needs.{needs}
+use Rattle.saved.proofs.Chains.{inside-then}
+use Rattle.saved.proofs.Stacks.{stack-dropped}
+use Rattle.saved.proofs.Walks.{space-then, starts-early}
 use Rattle.saved.proofs.rewind.Statement.{statement}
 use Rattle.saved.proofs.rewind.Tie as tie
-use Rattle.saved.proofs.rewind.Reads as reads
-use Rattle.saved.proofs.rewind.Lts as lts
-use Rattle.saved.proofs.advance.Reads as advance-reads
-use Rattle.saved.proofs.drop_after.Reads as drop-after-reads
-use Rattle.saved.proofs.restart.Reads as restart-reads
 
--- src/lib.rt:342:9
 drop-after-requires : tie.Need-drop-after-requires
 drop-after-requires c κs = search needs
 
--- src/lib.rt:343:9
 restart-requires : tie.Need-restart-requires
 restart-requires c κs = (c .before .before .before .before .pre .0, (c .before .before .before .before .pre .1 .0 .places, stack-dropped (c .before .before .before .before .pre .1 .0 .stack) (c .before .drop-after .ensures)))
 
--- src/lib.rt:344:5
 advance-requires : tie.Need-advance-requires
 advance-requires c κs = record { space = space-then (c .before .before .before .before .before .before .before .before .pre .0) (c .before .before .before .restart .ensures .inside .size); at = c .before .before .before .restart .ensures .at; from = starts-early (c .before .before .before .before .before .drop-after .ensures) (c .before .before .before .restart .ensures) (c .before .before .before .before .before .before .before .before .pre .1 .1 .0); most = omega (arith, c .before .before .before .before .before .before .before .before .pre .1 .1 .1, c .before .before .before .before .before .before .before .before .pre .1 .0 .most) }
 
--- src/lib.rt:337:1
 same-length : tie.Need-same-length
 same-length c = search needs
 
--- src/lib.rt:337:1
 returns : tie.Need-returns
 returns c = record { at = c .before .before .advance .ensures .at; time = c .before .before .advance .ensures .time; inside = inside-then (c .before .before .before .before .before .before .restart .ensures .inside) (c .before .before .advance .ensures .inside) }
 
