@@ -102,6 +102,7 @@ module _ {P : Plan} {zs : List ℤ} (R : Ready P zs) (t : ℕ) (ht : suc (suc t)
           last = lasts;
           size = refl;
           new = [];
+          few = omega arith;
           count = omega arith;
           way = way (p .last) ∙ rw j refl;
           holds = λ rs l₀ q h. rw (append-nil rs) h;
@@ -115,6 +116,7 @@ module _ {P : Plan} {zs : List ℤ} (R : Ready P zs) (t : ℕ) (ht : suc (suc t)
           last = omega arith;
           size = m .size;
           new = M.run (suc (suc t)) (p .last) (p .state) (P .lo +ℤ pos (p .level)) e ∷ [];
+          few = omega arith;
           count = omega arith;
           way = way (p .last) ∙ rw j refl;
           holds = λ rs l₀ q h. holds-put rs l₀ out out′ (p .runs) r _ q e5 h m;

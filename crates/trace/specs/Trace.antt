@@ -46,6 +46,7 @@ pub record StepMade (P : Plan) (zs : List ℤ) (t : ℕ) (p r : Point) (out out�
   pub last : r .last ≤ length zs
   pub size : length out′ ≡ length out
   pub new : List M.Run
+  pub few : length new ≤ 1
   pub count : r .runs ≡ p .runs + length new
   pub way : walkBack P zs (p .last) (suc t) (nodeAt P p) ≡ new ++ walkBack P zs (r .last) t (nodeAt P r)
   pub holds : (rs : List M.Run) (l₀ : List ℤ) → p .runs ≡ length rs → Holds rs l₀ out → Holds (rs ++ new) l₀ out′

@@ -1,0 +1,56 @@
+-- What a search and a cost at a point answer, and what becomes of the lists that they are lent. Assumes nothing.
+use mathlib.Core.List.{List, _++_}
+use mathlib.Core.Bool.{Bool, true, false, cond}
+use Prim.Native.Nat.{ℕ, _+_, _*_, _/_}
+use lib.Dec.{eqb, ltb}
+use lib.IntN.{ℤ}
+use lib.ListN.{length, drop, replicate}
+use Rattle.plan.specs.declared.Plan.{Plan}
+use Rattle.model.specs.Model.{width}
+use Rattle.model.specs.Refusals.{searchNumber, pointNumber}
+use Rattle.model.specs.Result.{Result, found, refused, whole, point, resultOf}
+use Rattle.search.specs.declared.Found.{Found}
+use Rattle.search.specs.declared.Found.the-variants.{Segmentation, Refused}
+use Rattle.search.specs.declared.Cost.{Cost}
+use Rattle.search.specs.declared.Cost.the-variants.{Least, Refusal}
+
+-- "48 × S × L words of 64 bits"
+unfoldable pub workWords : Plan → ℕ
+workWords P = 48 * (P .states * width P)
+
+-- "Search: 11, 9, 13, 14, 15, 16": the numbers before 14, then what is lent, then the model's answer
+unfoldable pub searchResult : Plan → List ℤ → ℕ → ℕ → Result
+searchResult P zs words room =
+    cond (eqb (searchNumber P (length zs)) 0)
+    (cond (ltb words (workWords P)) (refused 14) (cond (ltb room (5 * length zs)) (refused 15) (resultOf P zs whole)))
+    (refused (searchNumber P (length zs)))
+
+-- "Cost at a point: 11, 9, state 5, level 4, 14, 16"
+unfoldable pub pointResult : Plan → List ℤ → ℕ → ℤ → ℕ → Result
+pointResult P zs s m words =
+    cond (eqb (pointNumber P (length zs) s m) 0)
+    (cond (ltb words (workWords P)) (refused 14) (resultOf P zs (point s m)))
+    (refused (pointNumber P (length zs) s m))
+
+-- the answers as values: the paper's number, or the cost and how many runs there are
+abbrev pub foundOf : Result → Found
+foundOf (found c ns) = Segmentation c (length ns / 5)
+foundOf (refused n) = Refused n
+
+abbrev pub costOf : Result → Cost
+costOf (found c ns) = Least c
+costOf (refused n) = Refusal n
+
+-- "Runs fill the front of their buffer; the rest, and on refusal all of it, stays."
+abbrev pub runsAfter : Result → List ℤ → List ℤ
+runsAfter (found c ns) out = ns ++ drop (length ns) out
+runsAfter (refused n) out = out
+
+-- "After a search or a cost at a point that succeeds or gives 16"
+abbrev pub looked : Result → Bool
+looked (found c ns) = true
+looked (refused n) = eqb n 16
+
+-- "the first 48 × S × L words are zero and the others untouched; after other refusals all are untouched"
+unfoldable pub wordsAfter : Plan → Result → List ℕ → List ℕ
+wordsAfter P r ws = cond (looked r) (replicate (workWords P) 0 ++ drop (workWords P) ws) ws
