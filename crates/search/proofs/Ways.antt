@@ -39,7 +39,7 @@ walked-then a b = record { at = b .at; time = b .time; inside = inside-then (a .
 
 -- ---- back
 
-place-low : {P : Plan} {zs : List ℤ} {g : Shape} {w : Walk} {ws : List ℕ} → Task P zs g → At P zs w ws → w .cur ≤ 1048576
+pub place-low : {P : Plan} {zs : List ℤ} {g : Shape} {w : Walk} {ws : List ℕ} → Task P zs g → At P zs w ws → w .cur ≤ 1048576
 place-low {P} a at =
     let h : P .states * width P ≤ 8 * 1024 = mul-le-mul (a .checked .few-states) (a .checked .narrow) in
     ⊎-elim (λ x. omega (arith, x .0)) (λ x. omega (arith, x .0)) (at .places)

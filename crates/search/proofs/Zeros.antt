@@ -6,6 +6,9 @@ use Prim.Native.Nat.{ℕ, _+_, _-_, _≤_, _<_}
 use native.Mathlib.Omega.{arith}
 use native.Mathlib.Decide.{decLt, ℕ-discrete}
 use lib.ListN.{length, getD, set, drop, replicate, length-set, length-append, length-drop, length-replicate, getD-replicate, List·getD-append}
+use lib.ListN.{List·getD-eq-default}
+use lib.IntN.{ℤ, pos}
+use lib.Signed.{mag}
 use lib.Seq.{getD-set-same, getD-set-other, ext-getD, getD-append-add, getD-drop}
 
 -- the first n words are zero, and the rest is as before
@@ -54,3 +57,19 @@ same-drop n l l′ e f =
 
 pub cleared-end : {n m : ℕ} {l l′ : List ℕ} → n ≡ m → Cleared n l l′ → Cleared m l l′
 cleared-end {n} {m} {l} {l′} e c = subst (λ (x : ℕ). Cleared x l l′) e c
+
+-- ---- a fact of every element
+
+pub fits-more : (l : List ℤ) (i : ℕ) → ((t : ℕ) → t < i → mag (getD l t (pos 0)) < 32768) → mag (getD l i (pos 0)) < 32768 → (t : ℕ) → t < i + 1 → mag (getD l t (pos 0)) < 32768
+fits-more l i f h t k = go (ℕ-discrete t i)
+  where
+    go : Dec (t ≡ i) → mag (getD l t (pos 0)) < 32768
+    go (yes e) = rw e h
+    go (no e) = f t (omega (arith, e))
+
+pub fits-all : (l : List ℤ) → ((t : ℕ) → t < length l → mag (getD l t (pos 0)) < 32768) → (t : ℕ) → mag (getD l t (pos 0)) < 32768
+fits-all l f t = go (decLt t (length l))
+  where
+    go : Dec (t < length l) → mag (getD l t (pos 0)) < 32768
+    go (yes h) = f t h
+    go (no h) = rw (List·getD-eq-default l (pos 0) {n = t} (omega arith)) (omega arith)

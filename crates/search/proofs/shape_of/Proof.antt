@@ -30,7 +30,7 @@ add-t8 c = search needs
 
 -- src/lib.rt:27:1
 returns : tie.Need-returns
-returns c = shape-is (c .before .before .before .before .before .pre) _ _ (place-is (c .before .before .before .before .before .args .plan .lo) _ (c .before .before .before .before .struct-told .given .0 .1) (c .before .before .bias .ensures .0)) (place-is (c .before .before .before .before .before .args .plan .hi) _ (c .before .before .before .before .struct-told .given .1 .0 .1) (c .before .bias2 .ensures .0))
+returns c = (shape-is (c .before .before .before .before .before .pre) _ _ (place-is (c .before .before .before .before .before .args .plan .lo) _ (c .before .before .before .before .struct-told .given .0 .1) (c .before .before .bias .ensures .0)) (place-is (c .before .before .before .before .before .args .plan .hi) _ (c .before .before .before .before .struct-told .given .1 .0 .1) (c .before .bias2 .ensures .0)), (c .before .before .before .before .struct-told .given .0 .1, c .before .before .before .before .struct-told .given .1 .0 .1))
 
 pub shape-of-spec : {M : Type 1} → statement M
 shape-of-spec = tie.close (tie.spec bias-requires bias-requires-2 cast-t6 sub-t7 add-t8 returns)

@@ -1,0 +1,27 @@
+-- The search once no refusal before 16 applies. Assumes nothing.
+use mathlib.Core.Path.{_≡_}
+use mathlib.Core.List.{List}
+use mathlib.Core.Bool.{true}
+use Prim.Native.Nat.{ℕ, _*_, _≤_}
+use lib.IntN.{ℤ}
+use lib.ListN.{length}
+use Rattle.plan.specs.declared.Plan.{Plan}
+use Rattle.model.specs.Refusals.{searchNumber}
+use Rattle.model.specs.Result.{whole, resultOf}
+use Rattle.layers.specs.declared.Shape.{Shape}
+use Rattle.saved.specs.Packed.{Inside}
+use Rattle.saved.specs.Walk.{Workspace, limit}
+use Rattle.search.specs.declared.Found.{Found}
+use Rattle.search.specs.Search.{foundOf, runsAfter, looked}
+
+pub record Solvable (P : Plan) (zs : List ℤ) (g : Shape) (ws : List ℕ) (out : List ℤ) : Type 0 where
+  pub accepts : searchNumber P (length zs) ≡ 0
+  pub space : Workspace P zs g ws
+  pub room : 5 * length zs ≤ length out
+
+-- the model's answer, and no word above the workspace's part changed
+pub record Solved (P : Plan) (zs : List ℤ) (r : Found) (ws ws′ : List ℕ) (out out′ : List ℤ) : Type 0 where
+  pub answer : r ≡ foundOf (resultOf P zs whole)
+  pub runs : out′ ≡ runsAfter (resultOf P zs whole) out
+  pub looks : looked (resultOf P zs whole) ≡ true
+  pub inside : Inside 0 (limit P) ws ws′
