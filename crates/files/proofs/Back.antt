@@ -41,7 +41,7 @@ pub record Means (s : List ℕ) (r : FileRead) : Type 0 where
   pub sealed : r .plan .sealed ≡ true
   pub counts : countOk (length (readingsOf (partOf s (r .start) (r .len)))) ≡ true
 
-no-answer : {Q : Type 0} (n : ℕ) → Refused n ≡ Done → Q
+pub no-answer : {Q : Type 0} (n : ℕ) → Refused n ≡ Done → Q
 no-answer n h = let z : _≡_ {A = ℕ} 0 1 = cc in absurd (omega arith)
 
 not-refused : {Q : Type 0} (n : ℕ) → refusedFile n .answer ≡ Done → Q
@@ -191,7 +191,7 @@ entries-back (suc k) s p at stage f w a = go (λ q to st′. entries-back k s q 
 
 -- ---- the grid and the states
 
-open-answer : (lo hi : ℤ) (s a b : ℕ) → openPlan lo hi s a b .answer ≡ Done → (openNumber lo hi s a b ≡ 0) × (openPlan lo hi s a b ≡ done (blank lo hi s a b))
+pub open-answer : (lo hi : ℤ) (s a b : ℕ) → openPlan lo hi s a b .answer ≡ Done → (openNumber lo hi s a b ≡ 0) × (openPlan lo hi s a b ≡ done (blank lo hi s a b))
 open-answer lo hi s a b h = go (eqb (openNumber lo hi s a b) 0) refl
   where
     go : (t : Bool) → eqb (openNumber lo hi s a b) 0 ≡ t → (openNumber lo hi s a b ≡ 0) × (openPlan lo hi s a b ≡ done (blank lo hi s a b))
