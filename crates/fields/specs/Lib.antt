@@ -2,3 +2,4 @@ pub mod Fields
 pub mod Laws
 pub mod Put
 pub mod Tags
+pub mod Prefix

@@ -121,10 +121,10 @@ label-passing b p ok = go (eqb (length b) 5)
     go true = call-keeps p (label (wordAt b 0) (wordAt b 2) (getD b 4 0)) ok
     go false = ok
 
-abbrev Stage : ℕ → Type 0
+abbrev pub Stage : ℕ → Type 0
 Stage stage = (stage ≡ 2) ⊎ (stage ≡ 3)
 
-tags : (stage t : ℕ) → Stage stage → mayStand stage t ≡ true → (t ≡ 3) ⊎ ((t ≡ 4) ⊎ (t ≡ 5))
+pub tags : (stage t : ℕ) → Stage stage → mayStand stage t ≡ true → (t ≡ 3) ⊎ ((t ≡ 4) ⊎ (t ≡ 5))
 tags stage t (inl e) h = at-2 t (ap (λ (x : ℕ). mayStand x t) (sym e) ∙ h)
 tags stage t (inr e) h = inr (at-3 t (ap (λ (x : ℕ). mayStand x t) (sym e) ∙ h))
 
