@@ -2,3 +2,5 @@
 pub mod Walk
 pub mod Stored
 pub mod Cases
+pub mod Back
+pub mod Again

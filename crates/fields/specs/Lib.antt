@@ -3,3 +3,4 @@ pub mod Laws
 pub mod Put
 pub mod Tags
 pub mod Prefix
+pub mod Eight

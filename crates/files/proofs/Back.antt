@@ -23,7 +23,7 @@ use Rattle.plan.specs.declared.Answer.the-variants.{Done, Refused}
 use Rattle.plan.proofs.Steps.{open-done, open-refused}
 use Rattle.plan.proofs.Cases.{Passing, seal-cases, seal-kept, call-keeps, blank-passing}
 use Rattle.fields.specs.Fields.{rowOf, mayStand, lengthFits, countFits, fieldAt, fieldNumber, partOf, wordAt, field}
-use Rattle.fields.specs.Laws.{FieldRead, field-is, field-bytes, part-length, part-bytes}
+use Rattle.fields.specs.Laws.{FieldRead, field-is, field-bytes, part-length, part-bytes, spell}
 use Rattle.fields.specs.Tags.{at-0, at-1, at-2, at-3, has-length}
 use Rattle.fields.specs.Put.{written}
 use Rattle.fields.specs.declared.Field.{Field}
@@ -32,7 +32,7 @@ use Rattle.files.specs.declared.FileRead.{FileRead}
 use Rattle.files.specs.Reader.{refusedFile, gridNumber, levelAt, openBodies, edgeBody, labelBody, entryBody, noPlan, onAnswer, atEnd, finishFile, onField, entriesFrom, onOpened, onStates, onGrid, planFile, readingsPart}
 use Rattle.files.specs.Writer.{gridField, statesField, edgesBytes, labelsBytes, headBytes, planBytes, planLength, writeNumber, afterWriting}
 use Rattle.files.specs.Sizes.{plan-length}
-use Rattle.files.proofs.Spell.{spell, bytesAt, added-edge, added-label}
+use Rattle.files.proofs.Spell.{added-edge, added-label}
 
 -- what an accepted reading r of s gives: a sealed plan that calls could have built, 1 to 4,096 readings, and their file is s
 pub record Means (s : List ℕ) (r : FileRead) : Type 0 where

@@ -1,16 +1,15 @@
--- A list of known length, spelled out; the bytes of a plan with one entry more.
+-- The bytes of a plan with one entry more.
 -- Assumes nothing.
 use Prim.Native.Nat.{ℕ, zero, suc, _+_, _-_, _*_, _/_, _%_, _≤_, _<_}
 use native.Mathlib.Omega.{arith}
 use native.Mathlib.Numerals.{add-one}
-use native.Mathlib.Nat.{add-suc}
 use mathlib.Core.Path.{_≡_, refl, sym, _∙_, ap, ap₂}
 use mathlib.Core.Bool.{Bool, true, false}
 use mathlib.Core.List.{List, [], _∷_, _++_, append-assoc, append-nil}
 use mathlib.Core.Logic.{_⊎_, inl, inr, ⊎-elim}
 use lib.Dec.{eqb}
-use lib.ListN.{length, getD, set, drop, drop-of-length-le}
-use lib.Seq.{drop-cons, getD-set-same, getD-set-other}
+use lib.ListN.{length, getD, set}
+use lib.Seq.{getD-set-same, getD-set-other}
 use lib.IntN.{ℤ}
 use borrow.Author.Tests.{eqb-true, eqb-false, eq-eqb, ne-eqb}
 use Rattle.integers.specs.Pick.{pick}
@@ -27,21 +26,9 @@ use Rattle.plan.proofs.Steps.{step-room, label-room}
 use Rattle.plan.proofs.Kept.{step-read, edge-back}
 use Rattle.plan.proofs.Cases.{AddedEdge, edge-cases, AddedLabel, label-cases, Sized}
 use Rattle.fields.specs.Fields.{field, wordAt}
+use Rattle.fields.specs.Laws.{spell}
 use Rattle.files.specs.Reader.{edgeBody, labelBody}
 use Rattle.files.specs.Writer.{gridField, statesField, edgeField, labelField, edgesBytes, labelsBytes, headBytes}
-
--- n bytes of b from i on
-abbrev pub bytesAt : List ℕ → ℕ → ℕ → List ℕ
-bytesAt b i zero = []
-bytesAt b i (suc n) = getD b i 0 ∷ bytesAt b (i + 1) n
-
-spell-from : (n i : ℕ) (b : List ℕ) → i + n ≡ length b → bytesAt b i n ≡ drop i b
-spell-from zero i b e = sym (drop-of-length-le b {i = i} (omega arith))
-spell-from (suc n) i b e =
-    ap (λ (l : List ℕ). getD b i 0 ∷ l) (spell-from n (i + 1) b (omega arith) ∙ ap (λ (k : ℕ). drop k b) (add-one i)) ∙ sym (drop-cons b i 0 (omega arith))
-
-pub spell : (n : ℕ) (b : List ℕ) → length b ≡ n → bytesAt b 0 n ≡ b
-spell n b e = spell-from n 0 b (omega arith)
 
 -- bytes of entries before n do not see a store at n
 edges-keep : (es : List Edge) (e : Edge) (m n : ℕ) → n ≤ m → edgesBytes (set es m e) n ≡ edgesBytes es n
