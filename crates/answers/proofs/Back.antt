@@ -246,3 +246,55 @@ read-then-write s out c n f h l =
     let ne = ne-eqb (length (runsOf s n)) 0 (λ q. omega (arith, q, m .some-runs)) in
     let long = sym (answer-length c (runsOf s n)) ∙ ap length (m .bytes) in
     rw (ne, z, e, m .rules, le-leb (11 + 11 * n) (length out) (omega (arith, long, e)), m .bytes)
+
+-- ---- a refusal
+
+not-refusal : {Q : Type 0} {m n : ℕ} → Unread m ≡ Refusal n → Q
+not-refusal h = let z : _≡_ {A = ℕ} 0 1 = cc in absurd (omega arith)
+
+not-runs : {Q : Type 0} {c m n : ℕ} → Runs c m ≡ Refusal n → Q
+not-runs h = let z : _≡_ {A = ℕ} 0 1 = cc in absurd (omega arith)
+
+runs-no-refusal : {Q : Type 0} (k : ℕ) (s : List ℕ) (cost at prev count n : ℕ) → runsFrom k s cost at prev count ≡ Refusal n → Q
+unfolding runsFrom
+runs-no-refusal zero s cost at prev count n h = not-refusal h
+runs-no-refusal {Q} (suc k) s cost at prev count n h = go (λ a b m. runs-no-refusal k s cost a b m n) (fieldAt s at 6) h
+  where
+    go : ((a b m : ℕ) → runsFrom k s cost a b m ≡ Refusal n → Q) → (x : Field) → onRun (runsFrom k s cost) s cost prev count x ≡ Refusal n → Q
+    go ih (Wrong m) w = not-refusal w
+    go ih (Body t st l) w = by (bodyFits prev (partOf s st l)) (eqb (st + l) (length s)) w
+      where
+        by : (x y : Bool) → pick x (pick y (Runs cost (count + 1)) (runsFrom k s cost (st + l) (bodyLast (partOf s st l)) (count + 1))) (Unread 17) ≡ Refusal n → Q
+        by false y w = not-refusal w
+        by true true w = not-runs w
+        by true false w = ih (st + l) (bodyLast (partOf s st l)) (count + 1) w
+
+-- reading, then writing: the bytes of a refusal that was read are the file, and it is one of the lists
+pub refusal-back : (s : List ℕ) (n : ℕ) → AllBytes s → answerFile s ≡ Refusal n → (refusalBytes n ≡ s) × (isRefusal n ≡ true)
+unfolding answerFile refusalRead rowOf
+refusal-back s n f h = go (fieldAt s 0 5) refl h
+  where
+    is-number : {a b : ℕ} → Refusal a ≡ Refusal b → a ≡ b
+    is-number w = cc
+
+    by-tests : {t st l : ℕ} → FieldRead s 0 5 t st l → t ≡ 0x83 → (x : Bool) → eqb (length (partOf s st l)) 1 ≡ x → (y : Bool) → isRefusal (getD (partOf s st l) 0 0) ≡ y → (z : Bool) → eqb (st + l) (length s) ≡ z →
+        pick x (pick y (pick z (Refusal (getD (partOf s st l) 0 0)) (Unread (fieldNumber (fieldAt s (st + l) 4)))) (Unread 17)) (Unread 3) ≡ Refusal n → (refusalBytes n ≡ s) × (isRefusal n ≡ true)
+    by-tests r e false qx y qy z qz w = not-refusal w
+    by-tests r e true qx false qy z qz w = not-refusal w
+    by-tests r e true qx true qy false qz w = not-refusal w
+    by-tests {t} {st} {l} r e true qx true qy true qz w =
+        let a = is-number w in
+        let b = spell 1 (partOf s st l) (eqb-true (length (partOf s st l)) 1 qx) in
+        (ap (λ (k : ℕ). refusalBytes k) (sym a) ∙ ap₂ field (sym e) b ∙ sym (field-bytes s 0 5 f r) ∙ ap (λ (k : ℕ). take k s) (eqb-true (st + l) (length s) qz) ∙ take-length s,
+        ap isRefusal (sym a) ∙ qy)
+
+    by-tag : {t st l : ℕ} → FieldRead s 0 5 t st l → (t ≡ 0x81) ⊎ (t ≡ 0x83) → (x : Bool) → eqb t 0x81 ≡ x →
+        pick x (runsFrom (length s + 1) s (number8 (partOf s st l)) (st + l) 0 0) (refusalRead s (st + l) (partOf s st l)) ≡ Refusal n → (refusalBytes n ≡ s) × (isRefusal n ≡ true)
+    by-tag {t} {st} {l} r k true q w = runs-no-refusal (length s + 1) s (number8 (partOf s st l)) (st + l) 0 0 n w
+    by-tag {t} {st} {l} r (inl e) false q w = absurd (eqb-false t 0x81 q e)
+    by-tag {t} {st} {l} r (inr e) false q w =
+        by-tests r e (eqb (length (partOf s st l)) 1) refl (isRefusal (getD (partOf s st l) 0 0)) refl (eqb (st + l) (length s)) refl w
+
+    go : (x : Field) → fieldAt s 0 5 ≡ x → onHead s x ≡ Refusal n → (refusalBytes n ≡ s) × (isRefusal n ≡ true)
+    go (Wrong m) e w = not-refusal w
+    go (Body t st l) e w = let r = field-is s 0 5 e in by-tag r (at-5 t (r .stands)) (eqb t 0x81) refl w

@@ -4,3 +4,4 @@ pub mod Stored
 pub mod Cases
 pub mod Back
 pub mod Again
+mod Examples
