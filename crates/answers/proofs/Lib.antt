@@ -4,4 +4,5 @@ pub mod Stored
 pub mod Cases
 pub mod Back
 pub mod Again
+pub mod Prefix
 mod Examples

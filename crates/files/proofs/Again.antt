@@ -43,22 +43,22 @@ use Rattle.files.proofs.Built.{addOf, opens, edge-call, label-call}
 
 -- ---- the plans on the way, and their bytes
 
-record Shape (q : Plan) (edges labels : ℕ) : Type 0 where
-  edge-count : q .edgecount ≡ edges
-  label-count : q .labelcount ≡ labels
-  edge-room : length (q .edges) ≡ 32
-  label-room : length (q .labels) ≡ 64
-  unsealed : q .sealed ≡ false
+pub record Shape (q : Plan) (edges labels : ℕ) : Type 0 where
+  pub edge-count : q .edgecount ≡ edges
+  pub label-count : q .labelcount ≡ labels
+  pub edge-room : length (q .edges) ≡ 32
+  pub label-room : length (q .labels) ≡ 64
+  pub unsealed : q .sealed ≡ false
 
 module _ (p : Plan) where
-  edges-shape : (i : ℕ) → Shape (edgesMade p i) i 0
+  pub edges-shape : (i : ℕ) → Shape (edgesMade p i) i 0
   unfolding edgesMade
   edges-shape zero = record { edge-count = refl; label-count = refl; edge-room = length-replicate 32 noEdge; label-room = length-replicate 64 noLabel; unsealed = refl }
   edges-shape (suc i) =
       let s = edges-shape i in
       record { edge-count = ap (λ (n : ℕ). n + 1) (s .edge-count) ∙ add-one i; label-count = s .label-count; edge-room = length-set (edgesMade p i .edges) (edgesMade p i .edgecount) (edgeAt p i) ∙ s .edge-room; label-room = s .label-room; unsealed = s .unsealed }
 
-  labels-shape : (j : ℕ) → Shape (labelsMade p j) (p .edgecount) j
+  pub labels-shape : (j : ℕ) → Shape (labelsMade p j) (p .edgecount) j
   unfolding labelsMade
   labels-shape zero = edges-shape (p .edgecount)
   labels-shape (suc j) =
