@@ -9,23 +9,24 @@ use mathlib.Core.Bool.{Bool, true, false}
 use mathlib.Core.List.{List, [], _∷_, _++_, append-nil, append-assoc}
 use lib.Dec.{eqb, leb}
 use lib.ListN.{length, getD, take, drop, length-append}
-use lib.Seq.{take-all, take-add, drop-cons}
+use lib.Seq.{take-all, take-at, take-add, drop-cons}
 use lib.IntN.{ℤ, pos, negsuc}
-use borrow.Author.Tests.{eq-eqb, ne-eqb}
+use borrow.Author.Tests.{eq-eqb, ne-eqb, eqb-false}
 use Rattle.integers.specs.Pick.{pick}
 use Rattle.integers.specs.Bytes.{word, word-back, signed16, bits16, signed-bits}
 use Rattle.fields.specs.declared.Field.{Field}
 use Rattle.fields.specs.declared.Field.the-variants.{Body, Wrong}
 use Rattle.fields.specs.Fields.{rowOf, mayStand, lengthFits, countFits, fieldAt, partOf, wordAt, field, number8, bytes8}
 use Rattle.fields.specs.Laws.{field-read, field-part}
-use Rattle.fields.specs.Eight.{number-back, eight-long}
+use Rattle.fields.specs.Eight.{number-back}
+use Rattle.fields.specs.Put.{written}
 use Rattle.answers.specs.declared.AnswerRead.{AnswerRead}
 use Rattle.answers.specs.declared.AnswerRead.the-variants.{Runs, Refusal, Unread}
 use Rattle.answers.specs.Runs.{isRefusal, runFits, whole, numberAt, wholeAt, lastBefore, runsOk}
 use Rattle.answers.specs.Reader.{bodyFits, bodyLast, runsFrom, refusalRead, answerFile, runNumbers, runBody, runsOf}
-use Rattle.answers.specs.Writer.{runField, runsBytes, answerBytes, refusalBytes}
+use Rattle.answers.specs.Writer.{runField, runsBytes, answerBytes, refusalBytes, answerLength, answerNumber, refusalNumber, afterAnswer, afterRefusal}
 use Rattle.answers.specs.Rules.{run-parts, run-small, run-level, runs-each, last-next, last-first}
-use Rattle.answers.specs.Lengths.{run-bytes-length}
+use Rattle.answers.specs.Lengths.{run-bytes-length, answer-length, Writes, answer-room}
 
 -- a refusal
 pub refusal-again : (n : ℕ) → isRefusal n ≡ true → answerFile (refusalBytes n) ≡ Refusal n
@@ -174,3 +175,22 @@ module _ (cost : ℕ) (runs : List ℤ) (small : cost < 18446744073709551616) (f
   -- and so do the run numbers
   pub runs-back : runsOf file count ≡ runs
   runs-back = runs-front count (omega arith) ∙ take-all (5 * count) runs (omega (arith, five))
+
+-- the same from buffer to buffer: what a writer left in front of out, read again
+pub written-then-read :
+    (cost : ℕ) (runs : List ℤ) (out : List ℕ) → cost < 18446744073709551616 → answerNumber runs (length out) ≡ 0 →
+    (answerFile (take (answerLength (length runs)) (afterAnswer cost runs out)) ≡ Runs cost (length runs / 5)) × (runsOf (take (answerLength (length runs)) (afterAnswer cost runs out)) (length runs / 5) ≡ runs)
+unfolding written
+written-then-read cost runs out small w =
+    let r = answer-room runs (length out) w in
+    let e : take (answerLength (length runs)) (afterAnswer cost runs out) ≡ answerBytes cost runs = rw w (take-at (answerBytes cost runs) (drop (length (answerBytes cost runs)) out) (answerLength (length runs)) (answer-length cost runs)) in
+    (ap answerFile e ∙ write-then-read cost runs small (r .five) (r .some-runs) (r .rules), ap (λ (s : List ℕ). runsOf s (length runs / 5)) e ∙ runs-back cost runs small (r .five) (r .some-runs) (r .rules))
+
+pub refusal-then-read : (n : ℕ) (out : List ℕ) → refusalNumber n (length out) ≡ 0 → answerFile (take 4 (afterRefusal n out)) ≡ Refusal n
+unfolding written refusalNumber
+refusal-then-read n out w = go (isRefusal n) refl (leb 4 (length out)) refl w
+  where
+    go : (a : Bool) → isRefusal n ≡ a → (b : Bool) → leb 4 (length out) ≡ b → _≡_ {A = ℕ} (pick a (pick b 0 15) 17) 0 → answerFile (take 4 (afterRefusal n out)) ≡ Refusal n
+    go false qa b qb h = absurd (eqb-false 17 0 refl h)
+    go true qa false qb h = absurd (eqb-false 15 0 refl h)
+    go true qa true qb h = rw (qa, qb) (refusal-again n qa)

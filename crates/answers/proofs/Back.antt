@@ -206,9 +206,10 @@ read-head s c n f h = go (fieldAt s 0 5) refl h
     by-tag {t} {st} {l} r (inl z) true q w =
         let e : st + l ≡ 11 = omega (arith, z .0, z .1) in
         let a = all-runs (length s + 1) s (number8 (partOf s st l)) (st + l) 0 0 c n w (omega arith) refl in
-        let b = eight-back (partOf s st l) (part-length s st l (r .whole) ∙ z .1) (part-bytes s st l f) in
-        (ap (λ (k : ℕ). take k s) (sym e) ∙ field-bytes s 0 5 f r ∙ ap₂ field (eqb-true t 0x81 q) (sym b ∙ ap bytes8 (sym (a .same))),
-        record { same = refl; more = a .more; each = a .each })
+        let b = eight-back (partOf s st l) (part-length s st l (r .whole) ∙ z .1) (part-bytes s st l f) in (
+          ap (λ (k : ℕ). take k s) (sym e) ∙ field-bytes s 0 5 f r ∙ ap₂ field (eqb-true t 0x81 q) (sym b ∙ ap bytes8 (sym (a .same))),
+          record { same = refl; more = a .more; each = a .each },
+        )
     by-tag {t} {st} {l} r z false q w =
         refused (getD (partOf s st l) 0 0) (fieldNumber (fieldAt s (st + l) 4)) (eqb (length (partOf s st l)) 1) (isRefusal (getD (partOf s st l) 0 0)) (eqb (st + l) (length s)) w
 
@@ -230,7 +231,7 @@ file-back s c n f h = means (read-head s c n f h)
         let e : length (runsOf s n) / 5 ≡ n = omega (arith, runs-length s n) in
         record {
           bytes =
-            ap (λ (k : ℕ). field 0x81 (bytes8 c) ++ runsBytes (runsOf s n) k) e ∙ sym (runs-head s f n (λ i l. a .1 .each i (omega arith) l) c (a .0) n (omega arith)) ∙ ap (λ (k : ℕ). take k s) (sym (file-long s c n h)) ∙ take-length s;
+              ap (λ (k : ℕ). field 0x81 (bytes8 c) ++ runsBytes (runsOf s n) k) e ∙ sym (runs-head s f n (λ i l. a .1 .each i (omega arith) l) c (a .0) n (omega arith)) ∙ ap (λ (k : ℕ). take k s) (sym (file-long s c n h)) ∙ take-length s;
           rules = runs-keep s f n (λ i l. a .1 .each i (omega arith) l) n (omega arith);
           some-runs = a .1 .more;
         }
@@ -284,9 +285,10 @@ refusal-back s n f h = go (fieldAt s 0 5) refl h
     by-tests r e true qx true qy false qz w = not-refusal w
     by-tests {t} {st} {l} r e true qx true qy true qz w =
         let a = is-number w in
-        let b = spell 1 (partOf s st l) (eqb-true (length (partOf s st l)) 1 qx) in
-        (ap (λ (k : ℕ). refusalBytes k) (sym a) ∙ ap₂ field (sym e) b ∙ sym (field-bytes s 0 5 f r) ∙ ap (λ (k : ℕ). take k s) (eqb-true (st + l) (length s) qz) ∙ take-length s,
-        ap isRefusal (sym a) ∙ qy)
+        let b = spell 1 (partOf s st l) (eqb-true (length (partOf s st l)) 1 qx) in (
+          ap (λ (k : ℕ). refusalBytes k) (sym a) ∙ ap₂ field (sym e) b ∙ sym (field-bytes s 0 5 f r) ∙ ap (λ (k : ℕ). take k s) (eqb-true (st + l) (length s) qz) ∙ take-length s,
+          ap isRefusal (sym a) ∙ qy,
+        )
 
     by-tag : {t st l : ℕ} → FieldRead s 0 5 t st l → (t ≡ 0x81) ⊎ (t ≡ 0x83) → (x : Bool) → eqb t 0x81 ≡ x →
         pick x (runsFrom (length s + 1) s (number8 (partOf s st l)) (st + l) 0 0) (refusalRead s (st + l) (partOf s st l)) ≡ Refusal n → (refusalBytes n ≡ s) × (isRefusal n ≡ true)

@@ -9,7 +9,8 @@ use mathlib.Core.Bool.{Bool, true, false}
 use mathlib.Core.List.{List, [], _∷_, _++_, append-nil, append-assoc}
 use mathlib.Core.Logic.{_⊎_, inl, inr, ⊎-elim}
 use lib.Dec.{eqb, leb}
-use lib.ListN.{length, getD, set, length-append, length-set, length-replicate}
+use lib.ListN.{length, getD, set, take, drop, length-append, length-set, length-replicate}
+use lib.Seq.{take-at}
 use lib.IntN.{ℤ}
 use mir.Syntax.{w16}
 use mir.Val.{SFits}
@@ -31,12 +32,13 @@ use Rattle.plan.proofs.Kept.{Parts, parts}
 use Rattle.plan.proofs.Cases.{Passing, blank-passing, call-keeps}
 use Rattle.fields.specs.Fields.{rowOf, mayStand, lengthFits, countFits, fieldAt, partOf, wordAt, field}
 use Rattle.fields.specs.Laws.{field-read, field-part}
+use Rattle.fields.specs.Put.{written}
 use Rattle.fields.specs.declared.Field.{Field}
 use Rattle.fields.specs.declared.Field.the-variants.{Body, Wrong}
 use Rattle.files.specs.declared.FileRead.{FileRead}
 use Rattle.files.specs.Reader.{refusedFile, gridNumber, levelAt, openBodies, edgeBody, labelBody, entryBody, noPlan, onAnswer, atEnd, finishFile, onField, entriesFrom, onOpened, onStates, onGrid, planFile, readingsPart}
-use Rattle.files.specs.Writer.{gridField, statesField, edgeField, labelField, edgesBytes, labelsBytes, headBytes, planBytes}
-use Rattle.files.specs.Sizes.{counts-small, head-length, edges-length, labels-length}
+use Rattle.files.specs.Writer.{gridField, statesField, edgeField, labelField, edgesBytes, labelsBytes, headBytes, planBytes, planLength, writeNumber, afterWriting}
+use Rattle.files.specs.Sizes.{counts-small, head-length, plan-length, Writes, write-room}
 use Rattle.files.specs.Cleared.{edgesMade, labelsMade, cleared}
 use Rattle.files.proofs.Spell.{head-edge, head-label}
 use Rattle.files.proofs.Built.{addOf, opens, edge-call, label-call}
@@ -194,7 +196,7 @@ module _ (p : Plan) (zs : List ℤ) (h : planNumber p ≡ 0) (fl : SFits w16 (p 
       let fits : lengthFits 5 (length b) ≡ true = eq-eqb (length b % 2) 0 (ap (λ (x : ℕ). x % 2) n ∙ even) in
       let counts : countFits 5 (length b) ≡ true = ap countOk (ap (λ (x : ℕ). x / 2) n ∙ half) ∙ cz in
       let x : fieldAt file (length pre) stage ≡ Body 5 (length pre + 3) (2 * length zs) =
-              ap (λ (y : List ℕ). fieldAt y (length pre) stage) (sym (append-nil file)) ∙ field-read pre b [] 5 stage m fits counts ∙ ap (Body 5 (length pre + 3)) n in
+      ap (λ (y : List ℕ). fieldAt y (length pre) stage) (sym (append-nil file)) ∙ field-read pre b [] 5 stage m fits counts ∙ ap (Body 5 (length pre + 3)) n in
       let e = eq-eqb (length pre + 3 + 2 * length zs) (length file) (sym whole-length) in
       rw (x, seals, e)
 
@@ -300,9 +302,10 @@ module _ (p : Plan) (zs : List ℤ) (h : planNumber p ≡ 0) (fl : SFits w16 (p 
 
   file-parts : (file ≡ field 1 grid ++ (field 2 sets ++ entries)) × (file ≡ field 1 grid ++ field 2 sets ++ entries)
   unfolding planBytes headBytes
-  file-parts =
-      (regroup₃ (field 1 grid) (field 2 sets) (edgesBytes (p .edges) (p .edgecount)) (labelsBytes (p .labels) (p .labelcount)) tail,
-      regroup₄ (field 1 grid) (field 2 sets) (edgesBytes (p .edges) (p .edgecount)) (labelsBytes (p .labels) (p .labelcount)) tail)
+  file-parts = (
+    regroup₃ (field 1 grid) (field 2 sets) (edgesBytes (p .edges) (p .edgecount)) (labelsBytes (p .labels) (p .labelcount)) tail,
+    regroup₄ (field 1 grid) (field 2 sets) (edgesBytes (p .edges) (p .edgecount)) (labelsBytes (p .labels) (p .labelcount)) tail,
+  )
 
   start-length : length (headBytes (edgesMade p 0)) ≡ 13
   start-length = let a = edges-shape p 0 in omega (arith, head-length (edgesMade p 0), a .edge-count, a .label-count)
@@ -330,3 +333,13 @@ module _ (p : Plan) (zs : List ℤ) (h : planNumber p ≡ 0) (fl : SFits w16 (p 
       let counts : countFits 5 (length b) ≡ true = ap countOk (ap (λ (x : ℕ). x / 2) n ∙ half) ∙ cz in
       ap readingsOf (ap (λ (r : FileRead). partOf file (r .start) (r .len)) write-then-read ∙ ap (partOf file (length (headBytes p) + 3)) (sym n) ∙ ap (λ (y : List ℕ). partOf y (length (headBytes p) + 3) (length b)) (sym (append-nil file)) ∙
       field-part (headBytes p) b [] 5 2 (stands .1) fits counts) ∙ decode-encode zs fz
+
+-- the same from buffer to buffer: what the writer left in front of out, read again
+pub written-then-read :
+    (p : Plan) (zs : List ℤ) (out : List ℕ) (fl : SFits w16 (p .lo)) (fh : SFits w16 (p .hi)) (fz : All16 zs) (w : writeNumber p (length zs) (length out) ≡ 0) →
+    planFile (take (planLength p (length zs)) (afterWriting p zs out)) ≡ record { answer = Done; plan = cleared p; start = length (headBytes p) + 3; len = 2 * length zs }
+unfolding written
+written-then-read p zs out fl fh fz w =
+    let r = write-room p (length zs) (length out) w in
+    let e : take (planLength p (length zs)) (afterWriting p zs out) ≡ planBytes p zs = rw w (take-at (planBytes p zs) (drop (length (planBytes p zs)) out) (planLength p (length zs)) (plan-length p zs)) in
+    ap planFile e ∙ write-then-read p zs (r .passes) fl fh fz (r .space .counts)

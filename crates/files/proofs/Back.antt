@@ -75,8 +75,8 @@ module _ (s : List ℕ) (f : AllBytes s) (at stage t st l : ℕ) (r : FieldRead 
     unfolding planBytes headBytes
     end-back q = record {
       bytes =
-        ap₂ (λ (x y : List ℕ). x ++ field 5 y) (sym head) readings-bytes ∙ ap (λ (k : ℕ). take at s ++ field k (partOf s st l)) (sym e) ∙ sym (field-bytes s at stage f r) ∙
-        ap (λ (k : ℕ). take k s) q ∙ take-length s;
+          ap₂ (λ (x y : List ℕ). x ++ field 5 y) (sym head) readings-bytes ∙ ap (λ (k : ℕ). take at s ++ field k (partOf s st l)) (sym e) ∙ sym (field-bytes s at stage f r) ∙
+          ap (λ (k : ℕ). take k s) q ∙ take-length s;
       passes = seal-kept p ∙ ok .number;
       sealed = refl;
       counts = readings-count;
@@ -217,9 +217,10 @@ module _ (g b : List ℕ) (fg : AllBytes g) where
           Passing (openPlan (levelAt g 0) (levelAt g 2) (getD b 0 0) (getD b 1 0) (getD b 2 0) .plan) × (headBytes (openPlan (levelAt g 0) (levelAt g 2) (getD b 0 0) (getD b 1 0) (getD b 2 0) .plan) ≡ field 1 g ++ field 2 b)
       opened h lg lb =
           let o = open-answer (levelAt g 0) (levelAt g 2) (getD b 0 0) (getD b 1 0) (getD b 2 0) h in
-          let head = gridField (levelAt g 0) (levelAt g 2) ++ statesField (getD b 0 0) (getD b 1 0) (getD b 2 0) in
-          (rw (o .1) (blank-passing (levelAt g 0) (levelAt g 2) (getD b 0 0) (getD b 1 0) (getD b 2 0) (o .0)),
-          ap (λ (x : Built). headBytes (x .plan)) (o .1) ∙ append-nil (head ++ []) ∙ append-nil head ∙ ap₂ (λ (x y : List ℕ). x ++ y) (grid-bytes lg) (states-bytes lb))
+          let head = gridField (levelAt g 0) (levelAt g 2) ++ statesField (getD b 0 0) (getD b 1 0) (getD b 2 0) in (
+            rw (o .1) (blank-passing (levelAt g 0) (levelAt g 2) (getD b 0 0) (getD b 1 0) (getD b 2 0) (o .0)),
+            ap (λ (x : Built). headBytes (x .plan)) (o .1) ∙ append-nil (head ++ []) ∙ append-nil head ∙ ap₂ (λ (x y : List ℕ). x ++ y) (grid-bytes lg) (states-bytes lb),
+          )
 
       go : (x : Bool) → eqb (length g) 4 ≡ x → (y : Bool) → eqb (length b) 3 ≡ y →
           pick x (pick y (openPlan (levelAt g 0) (levelAt g 2) (getD b 0 0) (getD b 1 0) (getD b 2 0)) (refusedAt noPlan 3)) (refusedAt noPlan 3) .answer ≡ Done →
@@ -247,7 +248,7 @@ file-back s f a = go (fieldAt s 0 0) refl a
         let g = partOf s st l in
         let b = partOf s st′ l′ in
         let head : take (st′ + l′) s ≡ field 1 g ++ field 2 b =
-                field-bytes s (st + l) 1 f r′ ∙ ap₂ (λ (x y : List ℕ). x ++ y) (field-bytes s 0 0 f r ∙ ap (λ (k : ℕ). field k g) (at-0 t (r .stands))) (ap (λ (k : ℕ). field k b) (at-1 t′ (r′ .stands))) in
+        field-bytes s (st + l) 1 f r′ ∙ ap₂ (λ (x y : List ℕ). x ++ y) (field-bytes s 0 0 f r ∙ ap (λ (k : ℕ). field k g) (at-0 t (r .stands))) (ap (λ (k : ℕ). field k b) (at-1 t′ (r′ .stands))) in
         by-answer (openBodies g b .answer) (entriesFrom (length s + 1) s (openBodies g b .plan) (st′ + l′) 2)
         (λ d. let o = opened-back g b (part-bytes s st l f) d in entries-back (length s + 1) s (openBodies g b .plan) (st′ + l′) 2 f (record { ok = o .0; head = head ∙ sym (o .1); stages = inl refl })) h
 

@@ -110,7 +110,7 @@ module _ (s : List ℕ) (f : AllBytes s) where
           let g = partOf s st l in
           let b = partOf s st′ l′ in
           let head : take (st′ + l′) s ≡ field 1 g ++ field 2 b =
-                  field-bytes s (st + l) 1 f r′ ∙ ap₂ (λ (x y : List ℕ). x ++ y) (field-bytes s 0 0 f r ∙ ap (λ (k : ℕ). field k g) (at-0 t (r .stands))) (ap (λ (k : ℕ). field k b) (at-1 t′ (r′ .stands))) in
+          field-bytes s (st + l) 1 f r′ ∙ ap₂ (λ (x y : List ℕ). x ++ y) (field-bytes s 0 0 f r ∙ ap (λ (k : ℕ). field k g) (at-0 t (r .stands))) (ap (λ (k : ℕ). field k b) (at-1 t′ (r′ .stands))) in
           let e = length-take fileBound s in
           by-answer (openBodies g b .answer) _ _
           (λ d.

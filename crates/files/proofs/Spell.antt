@@ -49,7 +49,7 @@ head-edge p e z h =
     let g = gridField (p .lo) (p .hi) ++ statesField (p .states) (p .start) (p .end) in
     let a : labelsBytes (p .labels) (p .labelcount) ≡ [] = ap (labelsBytes (p .labels)) z in
     let b : edgesBytes (set (p .edges) n e) (n + 1) ≡ edgesBytes (p .edges) n ++ edgeField e =
-            ap (edgesBytes (set (p .edges) n e)) (add-one n) ∙ ap₂ (λ (l : List ℕ) (x : Edge). l ++ edgeField x) (edges-keep (p .edges) e n n (omega arith)) (getD-set-same (p .edges) n e noEdge h) in
+    ap (edgesBytes (set (p .edges) n e)) (add-one n) ∙ ap₂ (λ (l : List ℕ) (x : Edge). l ++ edgeField x) (edges-keep (p .edges) e n n (omega arith)) (getD-set-same (p .edges) n e noEdge h) in
     ap₂ (λ (x y : List ℕ). g ++ x ++ y) b a ∙ append-nil (g ++ (edgesBytes (p .edges) n ++ edgeField e)) ∙ sym (append-assoc g (edgesBytes (p .edges) n) (edgeField e)) ∙
     ap (λ (x : List ℕ). x ++ edgeField e) (sym (append-nil (g ++ edgesBytes (p .edges) n)) ∙ ap (λ (x : List ℕ). g ++ edgesBytes (p .edges) n ++ x) (sym a))
 
@@ -59,7 +59,7 @@ head-label p l h =
     let n = p .labelcount in
     let g = gridField (p .lo) (p .hi) ++ statesField (p .states) (p .start) (p .end) ++ edgesBytes (p .edges) (p .edgecount) in
     let b : labelsBytes (set (p .labels) n l) (n + 1) ≡ labelsBytes (p .labels) n ++ labelField l =
-            ap (labelsBytes (set (p .labels) n l)) (add-one n) ∙ ap₂ (λ (x : List ℕ) (y : Label). x ++ labelField y) (labels-keep (p .labels) l n n (omega arith)) (getD-set-same (p .labels) n l noLabel h) in
+    ap (labelsBytes (set (p .labels) n l)) (add-one n) ∙ ap₂ (λ (x : List ℕ) (y : Label). x ++ labelField y) (labels-keep (p .labels) l n n (omega arith)) (getD-set-same (p .labels) n l noLabel h) in
     ap (λ (x : List ℕ). g ++ x) b ∙ sym (append-assoc g (labelsBytes (p .labels) n) (labelField l))
 
 no-answer : {Q : Type 0} (n : ℕ) → Refused n ≡ Done → Q

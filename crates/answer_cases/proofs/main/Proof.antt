@@ -1,11 +1,9 @@
+-- `answer_cases::main` meets its contract. Assumes nothing.
 use native.Mathlib.Omega.{arith}
 use Prim.Native.Nat.{_≤_, _-_}
 use borrow.Author.Needs.{needs}
 use Rattle.answer_cases.proofs.main.Statement.{statement}
 use Rattle.answer_cases.proofs.main.Tie as tie
-use Rattle.answer_cases.proofs.main.Reads as reads
-use Rattle.answer_cases.proofs.main.Lts as lts
-use Rattle.answer_cases.proofs.next_file.Reads as next-file-reads
 
 abbrev Inv-loop : tie.InvT-loop
 Inv-loop i₀ i = i ≤ 4096
@@ -13,31 +11,24 @@ Inv-loop i₀ i = i ≤ 4096
 abbrev μ-loop : tie.MeasureT-loop
 μ-loop i₀ i = 4096 - i
 
--- src/main.rt:47:5
 loop-holds : tie.Need-loop-holds Inv-loop μ-loop
 loop-holds c = omega arith
 
--- src/main.rt:48:13
 next-file-requires : tie.Need-next-file-requires Inv-loop μ-loop
 next-file-requires c κs = search needs
 
--- src/main.rt:49:13
 returns : tie.Need-returns Inv-loop μ-loop
 returns c = search needs
 
--- src/main.rt:51:9
 add-i : tie.Need-add-i Inv-loop μ-loop
 add-i c = omega arith
 
--- src/main.rt:47:5
 loop-less : tie.Need-loop-less Inv-loop μ-loop
 loop-less c = omega arith
 
--- src/main.rt:47:5
 loop-again : tie.Need-loop-again Inv-loop μ-loop
 loop-again c = omega arith
 
--- src/main.rt:45:1
 returns-2 : tie.Need-returns-2 Inv-loop μ-loop
 returns-2 c = search needs
 

@@ -1,12 +1,10 @@
+-- `hexout::show_bytes` meets its contract. Assumes nothing.
 use native.Mathlib.Omega.{arith}
 use lib.ListN.{length}
 use Prim.Native.Nat.{_≤_, _-_}
 use borrow.Author.Needs.{needs}
 use Rattle.hexout.proofs.show_bytes.Statement.{statement}
 use Rattle.hexout.proofs.show_bytes.Tie as tie
-use Rattle.hexout.proofs.show_bytes.Reads as reads
-use Rattle.hexout.proofs.show_bytes.Lts as lts
-use Rattle.hexout.proofs.show_byte.Reads as show-byte-reads
 
 abbrev Inv-loop : tie.InvT-loop
 Inv-loop s i₀ i = i ≤ length s
@@ -14,31 +12,24 @@ Inv-loop s i₀ i = i ≤ length s
 abbrev μ-loop : tie.MeasureT-loop
 μ-loop s i₀ i = length s - i
 
--- src/lib.rt:18:5
 loop-holds : tie.Need-loop-holds Inv-loop μ-loop
 loop-holds c = omega arith
 
--- src/lib.rt:19:19
 shared-slice-read-show-byte : tie.Need-shared-slice-read-show-byte Inv-loop μ-loop
 shared-slice-read-show-byte c = omega arith
 
--- src/lib.rt:19:9
 show-byte-requires : tie.Need-show-byte-requires Inv-loop μ-loop
 show-byte-requires c κs = search needs
 
--- src/lib.rt:20:9
 add-i : tie.Need-add-i Inv-loop μ-loop
 add-i c = omega arith
 
--- src/lib.rt:18:5
 loop-less : tie.Need-loop-less Inv-loop μ-loop
 loop-less c = omega arith
 
--- src/lib.rt:18:5
 loop-again : tie.Need-loop-again Inv-loop μ-loop
 loop-again c = omega arith
 
--- src/lib.rt:16:1
 returns : tie.Need-returns Inv-loop μ-loop
 returns c = omega arith
 
