@@ -12,8 +12,8 @@ use mathlib.Core.Bool.{Bool, true, false}
 use lib.Dec.{eqb, leb}
 use borrow.Author.Tests.{le-leb, lt-leb}
 use Rattle.quadratic.specs.Quad.{Small, Sized, Fine, Stays, Under, Over, up, down, value, pick, better, raised, none, flat, moved, mirrored}
-use Rattle.curve.specs.Pieces.{endOf, startOf, quadAt, piece, Formed, Built, Is, Kept, Same, Stored, Appended, Emits, Made, Lent, Copyable, Copied, shiftOf, mirrorOf, Turnable}
-use Rattle.curve.specs.Lists.{start-next, start-zero, count-le, end-lt, piece-at, same-quad, built-put, built-longer, kept-same, kept-refl, kept-then, kept-wider, kept-lent, same-end, same-start, opened, count-same, count-most, built-most, emits-none, emits-append}
+use Rattle.curve.specs.Pieces.{endOf, startOf, quadAt, piece, Formed, Built, Is, Kept, Same, Stored, Appended, Emits, Made, Held, Lent, shiftOf, mirrorOf, Turnable}
+use Rattle.curve.specs.Lists.{last-or, start-next, start-zero, count-le, end-lt, piece-at, same-quad, built-put, built-longer, kept-same, kept-refl, kept-then, kept-wider, kept-lent, same-end, same-start, opened, count-same, count-most, built-most, emits-none, emits-append}
 
 pub set-kept : (ws : List ℕ) (i v : ℕ) → Kept ws (set ws i v) i 1
 set-kept ws i v = record { size = simp length-set; before = λ j h. getD-set-other ws i j v 0 (λ e. omega arith); after = λ j h. getD-set-other ws i j v 0 (λ e. omega arith) }
@@ -279,5 +279,34 @@ back {ws₀} {ws} {dst} {len} {o} {L} {k} {x} t h l b g p = record {
 pub at-most : {ws : List ℕ} {o L i x : ℕ} → At ws o L i x → (f : Formed ws o L) → i ≤ f .count
 at-most a f = omega (arith, a .inside, count-same (a .formed) f)
 
-pub copy-lent : {ws : List ℕ} {o dst L : ℕ} (c : Copyable ws o dst L) → Lent ws o dst (4 * c .formed .count) L
-copy-lent c = record { formed = c .formed; room = c .room; apart = c .apart }
+-- ---- the first piece
+pub record First (ws : List ℕ) (o L : ℕ) : Type 0 where
+  pub room : o + 4 ≤ length ws
+  pub to : getD ws o 0 < L
+  pub is : (j : ℕ) → j ≤ getD ws o 0 → piece ws o L j ≡ quadAt ws o
+
+pub first : {ws : List ℕ} {o L : ℕ} → Held ws o L → 0 < L → First ws o L
+first {ws} {o} {L} h l = record { room = omega (arith, h .room, s .within (h .formed)); to = rw z at (s .to); is = λ j p. rw z at (s .is j (omega arith) (rw z p)) }
+  where
+    s : Here ws o L 0 0
+    s = here (at-start (h .formed)) l
+
+    z : o + 4 * 0 ≡ o
+    z = omega arith
+
+-- ---- copying word for word
+pub record Copying (ws₀ ws : List ℕ) (o dst n i : ℕ) : Type 0 where
+  pub kept : Kept ws₀ ws dst (4 * n)
+  pub word : (k : ℕ) → k < i → getD ws (dst + k) 0 ≡ getD ws₀ (o + k) 0
+
+pub copying-none : (ws : List ℕ) (o dst n : ℕ) → Copying ws ws o dst n 0
+copying-none ws o dst n = record { kept = kept-refl ws dst (4 * n); word = λ k h. absurd (omega arith) }
+
+pub copying-more : {ws₀ ws : List ℕ} {o dst n i : ℕ} → i < 4 * n → dst + i < length ws → (o + 4 * n ≤ dst) ⊎ (dst + 4 * n ≤ o) → Copying ws₀ ws o dst n i → Copying ws₀ (set ws (dst + i) (getD ws (o + i) 0)) o dst n (i + 1)
+copying-more {ws₀} {ws} {o} {dst} {n} {i} h g a c = record {
+  kept = kept-then (c .kept) (set-kept ws (dst + i) (getD ws (o + i) 0)) (omega arith) (omega arith);
+  word = λ k p. ⊎-elim
+      (λ e. rw e (getD-set-same ws (dst + i) (getD ws (o + i) 0) 0 g ∙ kept-same (4 * n) (c .kept) a .word (o + i) (omega arith) (omega arith)))
+      (λ e. getD-set-other ws (dst + i) (dst + k) (getD ws (o + i) 0) 0 (λ q. omega arith) ∙ c .word k e)
+      (last-or p);
+}

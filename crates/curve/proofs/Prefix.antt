@@ -11,7 +11,7 @@ use Rattle.curve.specs.declared.Low.{Low}
 use Rattle.curve.specs.declared.Run.{Run}
 use Rattle.curve.specs.Pieces.{Emits, Appended}
 use Rattle.curve.specs.Lists.{emits-append, emits-then, emits-as}
-use Rattle.curve.specs.Lows.{top, costs, Least, Drops, Prefixed, Lowered, lowest, prefixOf, lowest-new, lowest-stays, lowest-falls, prefix-new, prefix-old}
+use Rattle.curve.specs.Lows.{top, costs, Least, LeastIn, Drops, Prefixed, Lowered, lowest, prefixOf, lowest-new, lowest-stays, lowest-falls, prefix-new, prefix-old}
 
 pub drops-crossed : (p : Quad) (best a v base r : ℕ) → a ≤ v → Over (flat best) p (base + v) → Stays (flat best) p (base + a) (base + v) r → Drops p best a v base (r - base + 1)
 drops-crossed p best a v base r h o t = record {
@@ -150,3 +150,9 @@ till-done G from to x r t h g k = ⊎-elim
     (λ c. let z = c .0 in absurd (omega (arith, t .least from (omega arith) h (omega arith))))
     (λ c. record { low = c .0 .0; high = c .0 .1; is = c .1 .1; least = λ m u v. t .least m u v (omega arith); first = λ m u v. t .first m u (omega (arith, c .0)) (omega (arith, c .0)) v })
     (t .is)
+
+pub till-in : (G : ℕ → ℕ) (from to x : ℕ) (r : Low) → Till G from to x r → to < x → (from ≤ to → G from < top) → LeastIn G from to r
+till-in G from to x r t g k = record {
+  some = λ h. till-done G from to x r t h g (k h);
+  empty = λ h. ⊎-elim (λ c. c .0) (λ c. absurd (omega (arith, c .0))) (t .is);
+}

@@ -8,17 +8,17 @@ use Prim.Native.Nat.{ℕ, zero, suc, _+_, _*_, _-_, _≤_, _<_}
 use native.Mathlib.Nat.{mul-le-mul-right}
 use native.Mathlib.Numerals.{add-one}
 use native.Mathlib.Omega.{arith}
-use lib.Dec.{leb, ltb}
+use lib.Dec.{leb, ltb, eqb}
 use lib.ListN.{length, getD}
-use borrow.Author.Tests.{le-leb, lt-leb, lt-ltb, le-ltb}
+use borrow.Author.Tests.{le-leb, lt-leb, lt-ltb, le-ltb, eq-eqb}
 use Rattle.integers.specs.Rep.{le-or-lt}
 use Rattle.quadratic.specs.declared.Quad.{Quad}
 use Rattle.quadratic.specs.Quad.{up, down, value, none, flat, Small, Sized, Fine, pick, raised, pushed, moved, mirrored, better}
-use Rattle.quadratic.specs.Fine.{Bounds, far, plus, fine-sized, fine-none, fine-flat, fine-wider, fine-raised, value-raised, fine-pushed, value-pushed, fine-moved, value-moved, mirror-sum, mirror-rest, fine-mirrored, value-mirrored, value-better, fine-better, value-most, kinds}
+use Rattle.quadratic.specs.Fine.{Bounds, far, plus, square-most, fine-sized, fine-none, fine-flat, fine-wider, fine-raised, value-raised, fine-pushed, value-pushed, fine-moved, value-moved, mirror-sum, mirror-rest, fine-mirrored, value-mirrored, value-better, fine-better, value-most, kinds}
 use Rattle.curve.specs.declared.Low.{Low}
-use Rattle.curve.specs.Pieces.{pickN, piece, Formed, Kept, Apart, Made, Held, Lent, Copied, shiftOf, mirrorOf, Turnable}
-use Rattle.curve.specs.Lists.{kept-formed, kept-piece, count-most, built-none, closed}
-use Rattle.curve.specs.Lows.{top, costs, Least, lowest, prefixOf, lowest-zero, lowest-new, lowest-old, lowest-among, prefix-new, prefix-old}
+use Rattle.curve.specs.Pieces.{pickN, piece, Formed, Kept, Same, Apart, Made, Held, Lent, Copied, shiftOf, mirrorOf, Turnable}
+use Rattle.curve.specs.Lists.{same-built, kept-same, opened, count-most, closed, copied-built}
+use Rattle.curve.specs.Lows.{top, costs, Least, LeastIn, lowest, prefixOf, lowest-zero, lowest-new, lowest-old, lowest-among, prefix-new, prefix-old}
 
 -- a piece that costs x at v
 pub record Costs (A B v : ℕ) (q : Quad) (x : ℕ) : Type 0 where
@@ -40,11 +40,20 @@ bounds : {A B base L : ℕ} → Limits A B base L → (j : ℕ) → j < L → Bo
 bounds l j h = record { readings = l .readings; cost = l .cost; place = omega (arith, l .high) }
 
 -- ---- a list that is not written to
+pub curve-same : {A B base L : ℕ} {ws ws′ : List ℕ} {o : ℕ} {F : ℕ → ℕ} → length ws′ ≡ length ws → (c : Curve A B base L ws o F) → Same ws ws′ o (4 * c .held .formed .count) → Curve A B base L ws′ o F
+curve-same {A} {B} {base} {L} {ws} {ws′} {o} {F} e c s =
+    let b = same-built s (omega arith) (opened (c .held .formed)) in
+    record {
+      held = record { formed = record { count = c .held .formed .count; ends = b .ends; rising = b .rising }; room = omega (arith, c .held .room) };
+      at = λ j h. subst (λ (q : Quad). Costs A B (base + j) q (F j)) (sym (closed b j h)) (c .at j h);
+    }
+
 pub curve-kept : {A B base L : ℕ} {ws ws′ : List ℕ} {dst len o : ℕ} {F : ℕ → ℕ} → Kept ws ws′ dst len → (c : Curve A B base L ws o F) → (o + 4 * c .held .formed .count ≤ dst) ⊎ (dst + len ≤ o) → Curve A B base L ws′ o F
-curve-kept {A} {B} {base} {L} {ws} {ws′} {dst} {len} {o} {F} k c a = record {
-  held = record { formed = kept-formed k (c .held .formed) a; room = omega (arith, c .held .room, k .size) };
-  at = λ j h. subst (λ (q : Quad). Costs A B (base + j) q (F j)) (sym (kept-piece k (c .held .formed) a j h)) (c .at j h);
-}
+curve-kept k c a = curve-same (k .size) c (kept-same (4 * c .held .formed .count) k a)
+
+-- what a list costs, whatever its name
+pub curve-costs : {A B base L : ℕ} {ws : List ℕ} {o : ℕ} {F : ℕ → ℕ} → Curve A B base L ws o F → Curve A B base L ws o (costs base (piece ws o L))
+curve-costs c = record { held = c .held; at = λ j h. record { fine = c .at j h .fine; is = refl } }
 
 pub curve-as : {A B base L : ℕ} {ws : List ℕ} {o : ℕ} {F : ℕ → ℕ} (G : ℕ → ℕ) → ((j : ℕ) → j < L → F j ≡ G j) → Curve A B base L ws o F → Curve A B base L ws o G
 curve-as G e c = record { held = c .held; at = λ j h. record { fine = c .at j h .fine; is = c .at j h .is ∙ e j h } }
@@ -60,6 +69,10 @@ curve-lent dst len c a = record { formed = c .held .formed; room = c .held .room
 pub near : {A B base L : ℕ} {ws : List ℕ} {o : ℕ} {F : ℕ → ℕ} (dst : ℕ) (c : Curve A B base L ws o F) → Apart o dst (4 * L) → (o + 4 * c .held .formed .count ≤ dst) ⊎ (dst + 4 * L ≤ o)
 near dst c = ⊎-elim (λ h. inl (omega (arith, count-most (c .held .formed)))) (λ h. inr h)
 
+-- it may be read while the full list at dst is written
+pub curve-reads : {A B base L : ℕ} {ws : List ℕ} {o : ℕ} {F : ℕ → ℕ} (dst : ℕ) → Curve A B base L ws o F → Apart o dst (4 * L) → Lent ws o dst (4 * L) L
+curve-reads {L = L} dst c a = curve-lent dst (4 * L) c (near dst c a)
+
 module _ {A B base L : ℕ} (l : Limits A B base L) {ws : List ℕ} {o : ℕ} {F : ℕ → ℕ} (c : Curve A B base L ws o F) where
   pub curve-sized : (j : ℕ) → j < L → Sized (piece ws o L j)
   curve-sized j h = fine-sized (bounds l j h) (c .at j h .fine)
@@ -69,6 +82,23 @@ module _ {A B base L : ℕ} (l : Limits A B base L) {ws : List ℕ} {o : ℕ} {F
 
   pub curve-fine : (j : ℕ) → j < L → Fine 1048576 18014398509481984 (piece ws o L j) (base + j)
   curve-fine j h = fine-wider 1048576 18014398509481984 (l .readings) (l .cost) (c .at j h .fine)
+
+  -- each value is none, or less than B
+  pub curve-value : (j : ℕ) → j < L → (F j ≡ none) ⊎ (F j < B)
+  curve-value j h = ⊎-elim
+      (λ e. inl (sym (c .at j h .is) ∙ subst (λ (q : Quad). value q (base + j) ≡ none) (sym e) (omega arith)))
+      (λ e. inr (omega (arith, e .1, c .at j h .fine .whole, c .at j h .is)))
+      (kinds (bounds l j h) (c .at j h .fine))
+
+  pub curve-most : (j : ℕ) → j < L → F j ≤ none
+  curve-most j h = ⊎-elim (λ e. omega arith) (λ e. omega (arith, l .cost)) (curve-value j h)
+
+  -- a piece whose constant is none is none
+  pub curve-none : (j : ℕ) → j < L → piece ws o L j .c ≡ none → F j ≡ none
+  curve-none j h p = ⊎-elim
+      (λ e. sym (c .at j h .is) ∙ subst (λ (q : Quad). value q (base + j) ≡ none) (sym e) (omega arith))
+      (λ e. let z : eqb none none ≡ false = rw p at (e .0) in let y : _≡_ {A = ℕ} 0 1 = cc (eq-eqb none none refl) in absurd (omega arith))
+      (kinds (bounds l j h) (c .at j h .fine))
 
   pub curve-turnable : (j : ℕ) → j < L → Turnable (2 * base + (L - 1)) (piece ws o L j)
   curve-turnable j h =
@@ -103,10 +133,10 @@ curve-least {A} {B} {C} {base} {L} {ws} {ws′} {f} {g} {dst} {F} {G} pen hb l c
         let q = fine-wider A B (omega arith) hb (fine-raised pen b (cg .at j h .fine)) in
         record { fine = fine-better (cf .at j h .fine) q; is = value-better (cf .at j h .fine) q ∙ rw (value-raised pen b (cg .at j h .fine), cf .at j h .is, cg .at j h .is) refl }
 
-pub curve-loss : {A B base L : ℕ} {ws ws′ : List ℕ} {f dst : ℕ} {F : ℕ → ℕ} (u : ℕ) → ((j : ℕ) → j < L → far u (base + j) ≤ 65535) → Limits A B base L → Curve A B base L ws f F → dst + 4 * L ≤ length ws
-    → Made (λ (j : ℕ). pushed u (piece ws f L j)) ws ws′ dst L → Curve (A + 1) (B + 4294836225) base L ws′ dst (λ (j : ℕ). plus (far u (base + j) * far u (base + j)) (F j))
-curve-loss {base = base} {F = F} u d l c r m = made-curve (λ (j : ℕ). plus (far u (base + j) * far u (base + j)) (F j)) r m
-    (λ j h. record { fine = fine-pushed u (d j h) (bounds l j h) (c .at j h .fine); is = value-pushed u (bounds l j h) (c .at j h .fine) ∙ ap (plus (far u (base + j) * far u (base + j))) (c .at j h .is) })
+pub curve-loss : {A B base L : ℕ} {ws ws′ : List ℕ} {f dst : ℕ} {F : ℕ → ℕ} (w u : ℕ) → ((j : ℕ) → j < L → far u (base + j) ≤ 65535) → Limits A B base L → Curve A B base L ws f F → dst + 4 * L ≤ length ws
+    → Made (λ (j : ℕ). pushed w u (piece ws f L j)) ws ws′ dst L → Curve (A + w) (B + w * square-most) base L ws′ dst (λ (j : ℕ). plus (w * (far u (base + j) * far u (base + j))) (F j))
+curve-loss {base = base} {F = F} w u d l c r m = made-curve (λ (j : ℕ). plus (w * (far u (base + j) * far u (base + j))) (F j)) r m
+    (λ j h. record { fine = fine-pushed w u (d j h) (bounds l j h) (c .at j h .fine); is = value-pushed w u (bounds l j h) (c .at j h .fine) ∙ ap (plus (w * (far u (base + j) * far u (base + j)))) (c .at j h .is) })
 
 pub curve-shift : {A B base L : ℕ} {ws ws′ : List ℕ} {f dst : ℕ} {F : ℕ → ℕ} (g : ℕ) → Curve A B base L ws f F → dst + 4 * L ≤ length ws
     → Made (shiftOf g (piece ws f L)) ws ws′ dst L → Curve A B base L ws′ dst (λ (j : ℕ). pickN (leb g j) (F (j - g)) none)
@@ -163,14 +193,17 @@ curve-prefix {A} {B} {base} {L} {ws} {ws′} {f} {dst} {F} l c r m = made-curve 
         (le-or-lt (lowest G j) (G j))
 
 -- the least on a range
-pub curve-least-in : {A B base L : ℕ} {ws : List ℕ} {o : ℕ} {F : ℕ → ℕ} {from to : ℕ} {r : Low} → Curve A B base L ws o F → to < L → Least (costs base (piece ws o L)) from to r → Least F from to r
-curve-least-in c h t = record {
-  low = t .low;
-  high = t .high;
-  is = t .is ∙ c .at _ (omega (arith, t .high)) .is;
-  least = λ m u v. omega (arith, t .least m u v, c .at m (omega arith) .is);
-  first = λ m u v. omega (arith, t .first m u v, c .at m (omega (arith, t .high)) .is);
-}
+pub curve-least-in : {A B base L : ℕ} {ws : List ℕ} {o : ℕ} {F : ℕ → ℕ} {from to : ℕ} {r : Low} → Curve A B base L ws o F → to < L → LeastIn (costs base (piece ws o L)) from to r → LeastIn F from to r
+curve-least-in {base = base} {L} {ws} {o} {F} {from} {to} {r} c h t = record { some = λ g. least (t .some g); empty = t .empty }
+  where
+    least : Least (costs base (piece ws o L)) from to r → Least F from to r
+    least t = record {
+      low = t .low;
+      high = t .high;
+      is = t .is ∙ c .at _ (omega (arith, t .high)) .is;
+      least = λ m u v. omega (arith, t .least m u v, c .at m (omega arith) .is);
+      first = λ m u v. omega (arith, t .first m u v, c .at m (omega (arith, t .high)) .is);
+    }
 
 -- lists side by side, by their numbers, share no word
 pub slots-apart : (len i k : ℕ) → (i ≡ k → ⊥) → Apart (i * len) (k * len) len
@@ -182,11 +215,11 @@ slots-apart len i k n = ⊎-elim (λ h. inr (above i k h)) (λ h. inl (above k i
     above : (i k : ℕ) → k < i → k * len + len ≤ i * len
     above i k h = omega (arith, mul-le-mul-right len h)
 
--- a copy
+-- a copy, of as many pieces
 pub copied-curve : {A B base L : ℕ} {ws ws′ : List ℕ} {o dst r : ℕ} {F : ℕ → ℕ} → dst + 4 * r ≤ length ws → Copied ws ws′ o dst L r → Curve A B base L ws o F → Curve A B base L ws′ dst F
 copied-curve {A} {B} {base} {L} {ws} {ws′} {o} {dst} {r} {F} h m c =
-    let b = m .emits .built (piece ws o L) (λ j u v. refl) (built-none ws dst) in
+    let b = copied-built (c .held .formed) m in
     record {
-      held = record { formed = record { count = r; ends = b .ends; rising = b .rising }; room = omega (arith, m .emits .kept .size) };
+      held = record { formed = record { count = r; ends = b .ends; rising = b .rising }; room = omega (arith, m .kept .size) };
       at = λ j k. subst (λ (q : Quad). Costs A B (base + j) q (F j)) (sym (closed b j k)) (c .at j k);
     }

@@ -11,7 +11,7 @@ use lib.ListN.{length, getD}
 use borrow.Author.Tests.{le-leb, lt-leb}
 use Rattle.integers.specs.Rep.{le-or-lt}
 use Rattle.quadratic.specs.declared.Quad.{Quad}
-use Rattle.curve.specs.Pieces.{endOf, startOf, quadAt, pickN, seek, piece, Formed, Built, Is, Kept, Same, Apart, Stored, Appended, Emits, Made, Held, Lent}
+use Rattle.curve.specs.Pieces.{endOf, startOf, quadAt, pickN, seek, piece, Formed, Built, Is, Kept, Same, Apart, Stored, Appended, Emits, Made, Held, Lent, Copied}
 
 pub start-next : (ws : List ℕ) (o k : ℕ) → startOf ws o (k + 1) ≡ endOf ws o k + 1
 unfolding startOf
@@ -45,7 +45,7 @@ same-built {o = o} {n = n} s h b = record {
 pub built-none : {P : ℕ → Quad → Type 0} (ws : List ℕ) (o : ℕ) → Built P ws o 0 0
 built-none ws o = record { ends = start-zero ws o; rising = λ k h. absurd (omega arith); holds = λ k h. absurd (omega arith) }
 
-last-or : {k n : ℕ} → k < n + 1 → (k ≡ n) ⊎ (k < n)
+pub last-or : {k n : ℕ} → k < n + 1 → (k ≡ n) ⊎ (k < n)
 last-or {k} {n} h = ⊎-elim (λ p. inl (omega arith)) (λ p. inr p) (le-or-lt n k)
 
 -- one piece more
@@ -195,6 +195,9 @@ built-most {P} {ws} {o} {L} {k} {x} f b h = ⊎-elim (λ p. p) (λ p. absurd (mo
 pub count-same : {ws : List ℕ} {o L : ℕ} (f g : Formed ws o L) → f .count ≡ g .count
 count-same f g = omega (arith, built-most f (opened g) (omega arith), built-most g (opened f) (omega arith))
 
+pub count-is : {P : ℕ → Quad → Type 0} {ws : List ℕ} {o L r : ℕ} → Built P ws o r L → (f : Formed ws o L) → r ≡ f .count
+count-is {r = r} b f = omega (arith, built-most f b (omega arith), built-most (record { count = r; ends = b .ends; rising = b .rising }) (opened f) (omega arith))
+
 -- ---- emitting
 pub emits-none : (F : ℕ → Quad) (ws : List ℕ) (dst n x : ℕ) → Emits F ws ws dst n x x n
 emits-none F ws dst n x = record { count = λ h. h; grows = omega arith; kept = kept-refl ws dst (4 * n); built = λ G e b. b }
@@ -237,3 +240,32 @@ lent-kept k h l = record {
 
 pub lent-piece : {ws ws′ : List ℕ} {o dst len L m : ℕ} → Kept ws ws′ dst m → m ≤ len → Lent ws o dst len L → (j : ℕ) → j < L → piece ws′ o L j ≡ piece ws o L j
 lent-piece k h l = kept-piece k (l .formed) (⊎-elim (λ p. inl p) (λ p. inr (omega arith)) (l .apart))
+
+-- ---- a copy
+-- the list at o of ws, word for word at dst of ws′
+pub copied-built : {ws ws′ : List ℕ} {o dst L r : ℕ} → Formed ws o L → Copied ws ws′ o dst L r → Built (Is (piece ws o L)) ws′ dst r L
+unfolding startOf
+copied-built {ws} {ws′} {o} {dst} {L} {r} f m = record {
+  ends = start r (omega arith) ∙ b .ends;
+  rising = λ k h. rw (start k (omega arith), end k h) (b .rising k h);
+  holds = λ k h j p q. rw (quad k h) (b .holds k h j (rw (start k (omega arith)) at p) (rw (end k h) at q));
+}
+  where
+    b : Built (Is (piece ws o L)) ws o r L
+    b = rw (m .count f) (opened f)
+
+    end : (k : ℕ) → k < r → endOf ws′ dst k ≡ endOf ws o k
+    end k h = m .word (4 * k) (omega arith)
+
+    start : (k : ℕ) → k ≤ r → startOf ws′ dst k ≡ startOf ws o k
+    start zero h = refl
+    start (suc k) h = ap (λ (n : ℕ). n + 1) (end k (omega arith))
+
+    quad : (k : ℕ) → k < r → quadAt ws′ (dst + 4 * k) ≡ quadAt ws (o + 4 * k)
+    quad k h = rw (word 1 (omega arith), word 2 (omega arith), word 3 (omega arith))
+      where
+        word : (i : ℕ) → i < 4 → getD ws′ (dst + 4 * k + i) 0 ≡ getD ws (o + 4 * k + i) 0
+        word i g =
+            let a : dst + (4 * k + i) ≡ dst + 4 * k + i = omega arith in
+            let e : o + (4 * k + i) ≡ o + 4 * k + i = omega arith in
+            rw (a, e) at (m .word (4 * k + i) (omega arith))

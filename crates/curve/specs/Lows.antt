@@ -30,6 +30,11 @@ pub record Least (G : ℕ → ℕ) (from to : ℕ) (r : Low) : Type 0 where
   pub least : (m : ℕ) → from ≤ m → m ≤ to → r .value ≤ G m
   pub first : (m : ℕ) → from ≤ m → m < r .level → r .value < G m
 
+-- the same on a range that may be empty: then its value is more than any
+pub record LeastIn (G : ℕ → ℕ) (from to : ℕ) (r : Low) : Type 0 where
+  pub some : from ≤ to → Least G from to r
+  pub empty : to < from → r .value ≡ top
+
 -- the least of G at the levels below j, and top where there are none
 unfoldable pub lowest : (ℕ → ℕ) → ℕ → ℕ
 lowest G zero = top

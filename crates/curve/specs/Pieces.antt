@@ -125,6 +125,8 @@ pub record Copyable (ws : List ℕ) (o dst L : ℕ) : Type 0 where
   pub into : dst + 4 * formed .count ≤ length ws
   pub apart : (o + 4 * formed .count ≤ dst) ⊎ (dst + 4 * formed .count ≤ o)
 
+-- the words of the list at o, r pieces, stand at dst, and nothing else is changed
 pub record Copied (ws ws′ : List ℕ) (o dst L r : ℕ) : Type 0 where
-  pub count : (f : Formed ws o L) → r ≤ f .count
-  pub emits : Emits (piece ws o L) ws ws′ dst 0 0 L r
+  pub count : (f : Formed ws o L) → r ≡ f .count
+  pub kept : Kept ws ws′ dst (4 * r)
+  pub word : (i : ℕ) → i < 4 * r → getD ws′ (dst + i) 0 ≡ getD ws (o + i) 0

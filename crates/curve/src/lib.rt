@@ -6,7 +6,7 @@ ghost use mathlib.Core.Logic.{_⊎_};
 ghost use Prim.Native.Nat.{ℕ, _+_, _*_, _-_, _≤_, _<_};
 ghost use lib.ListN.{length, getD};
 ghost use Rattle.quadratic.specs.Quad.{Small, Sized, Fine, raised, pushed, moved, mirrored, better, value, flat, none, up, down, Over};
-ghost use Rattle.curve.specs.Lows.{Least, Drops, Prefixed, Lowered, prefixOf, costs, lowest};
+ghost use Rattle.curve.specs.Lows.{LeastIn, Drops, Prefixed, Lowered, prefixOf, costs, lowest};
 ghost use Rattle.curve.specs.Pieces.{quadAt, Kept, Built, Is, Formed, piece, Stored, Appended, Emits, Made, Apart, Held, Lent, Copyable, Copied, startOf, endOf, endsBelow, shiftOf, mirrorOf, Turnable};
 
 // The piece at a place, without its end.
@@ -116,7 +116,15 @@ fn next(i: usize, e: u64, y: u64) -> usize
 }
 
 // dst: at each level the less of f's and of g's with pen added.
-pub fn least2(ws: &mut [u64], f: usize, g: usize, pen: u64, dst: usize, levels: u64, base: u64)
+pub fn least_of_two(
+    ws: &mut [u64],
+    f: usize,
+    g: usize,
+    pen: u64,
+    dst: usize,
+    levels: u64,
+    base: u64,
+)
     requires { ⌜ Lent (now ws) f dst (4 * levels) levels × (Lent (now ws) g dst (4 * levels) levels × (dst + 4 * levels ≤ length (now ws))) ⌝ }
     requires { ⌜ (pen ≤ 1152921504606846976) × (base + levels ≤ 262144) ⌝ }
     requires { ⌜ ((j : ℕ) → j < levels → Sized (piece (now ws) f levels j)) ⌝ }
@@ -143,12 +151,12 @@ pub fn least2(ws: &mut [u64], f: usize, g: usize, pen: u64, dst: usize, levels: 
     }
 }
 
-// dst: f with the square (u - v)² more at each level.
-pub fn add_loss(ws: &mut [u64], f: usize, u: u64, dst: usize, levels: u64)
+// dst: f with w times the square (u - v)² more at each level.
+pub fn add_loss(ws: &mut [u64], f: usize, u: u64, w: u64, dst: usize, levels: u64)
     requires { ⌜ Lent (now ws) f dst (4 * levels) levels × (dst + 4 * levels ≤ length (now ws)) ⌝ }
-    requires { ⌜ (u < 262144) × (levels ≤ 262144) ⌝ }
+    requires { ⌜ ((u < 262144) × (w < 256)) × (levels ≤ 262144) ⌝ }
     requires { ⌜ ((j : ℕ) → j < levels → Sized (piece (now ws) f levels j)) ⌝ }
-    ensures { λ r. ⌜ Made (λ (j : ℕ). pushed u (piece (now (ws .entry)) f levels j)) (now (ws .entry)) (now (ws .exit)) dst levels ⌝ }
+    ensures { λ r. ⌜ Made (λ (j : ℕ). pushed w u (piece (now (ws .entry)) f levels j)) (now (ws .entry)) (now (ws .exit)) dst levels ⌝ }
 {
     let mut i: usize = 0;
     let mut n: usize = 0;
@@ -157,7 +165,7 @@ pub fn add_loss(ws: &mut [u64], f: usize, u: u64, dst: usize, levels: u64)
         let at = f + 4 * i;
         let e = ws[at];
         let p = load(ws, at);
-        let q = quadratic::push(p, u);
+        let q = quadratic::add_square(p, u, w);
         n = append(ws, dst, n, e, q);
         i += 1;
         x = e + 1;
@@ -165,7 +173,7 @@ pub fn add_loss(ws: &mut [u64], f: usize, u: u64, dst: usize, levels: u64)
 }
 
 // c at the levels from x up to y, y not among them.
-fn flat_to(ws: &mut [u64], dst: usize, n: usize, x: u64, y: u64, c: u64) -> usize
+fn constant_to(ws: &mut [u64], dst: usize, n: usize, x: u64, y: u64, c: u64) -> usize
     requires { ⌜ ((n ≤ x) × (x ≤ y)) × (dst + 4 * y ≤ length (now ws)) ⌝ }
     ensures { λ r. ⌜ Emits (λ (j : ℕ). flat c) (now (ws .entry)) (now (ws .exit)) dst n x y r ⌝ }
 {
@@ -185,17 +193,17 @@ pub fn shift(ws: &mut [u64], f: usize, gap: u64, dst: usize, levels: u64)
     ensures { λ r. ⌜ Made (shiftOf gap (piece (now (ws .entry)) f levels)) (now (ws .entry)) (now (ws .exit)) dst levels ⌝ }
 {
     if levels <= gap {
-        flat_to(ws, dst, 0, 0, levels, quadratic::NONE);
+        constant_to(ws, dst, 0, 0, levels, quadratic::NONE);
         return;
     }
-    let mut n = flat_to(ws, dst, 0, 0, gap, quadratic::NONE);
+    let mut n = constant_to(ws, dst, 0, 0, gap, quadratic::NONE);
     let mut i: usize = 0;
     let mut x: u64 = 0;
     while x + gap < levels {
         let at = f + 4 * i;
         let e = ws[at];
         let p = load(ws, at);
-        let q = quadratic::shifted(p, gap);
+        let q = quadratic::shift(p, gap);
         let y = lesser(e, levels - 1 - gap);
         n = append(ws, dst, n, y + gap, q);
         i = next(i, e, y);
@@ -239,7 +247,7 @@ pub fn mirror(ws: &mut [u64], f: usize, dst: usize, levels: u64, base: u64)
         k -= 1;
         let s = start(ws, f, k);
         let p = load(ws, f + 4 * k);
-        let q = quadratic::turned(p, 2 * base + (levels - 1));
+        let q = quadratic::mirror(p, 2 * base + (levels - 1));
         n = append(ws, dst, n, levels - 1 - s, q);
         x = s;
     }
@@ -258,7 +266,7 @@ pub struct Run {
 }
 
 // The first level of [a, v] at which p is less than best, where it is so at v.
-fn drops(p: Quad, best: u64, a: u64, v: u64, base: u64) -> u64
+fn first_below(p: Quad, best: u64, a: u64, v: u64, base: u64) -> u64
     requires { ⌜ (Small p × (best ≤ 1152921504606846977)) × ((a ≤ v) × (base + v < 262144)) ⌝ }
     requires { ⌜ Over (flat best) p (base + v) ⌝ }
     ensures { λ r. ⌜ Drops p best a v base r ⌝ }
@@ -277,7 +285,7 @@ fn drops(p: Quad, best: u64, a: u64, v: u64, base: u64) -> u64
 }
 
 // The least so far at the levels from a to e, at which p is in force.
-fn prefix_on(ws: &mut [u64], dst: usize, run: Run, p: Quad, a: u64, e: u64, base: u64) -> Run
+fn running_min_on(ws: &mut [u64], dst: usize, run: Run, p: Quad, a: u64, e: u64, base: u64) -> Run
     requires { ⌜ Small p × ((v : ℕ) → base + a ≤ v → v ≤ base + e → down p v ≤ up p v) ⌝ }
     requires { ⌜ ((run .n ≤ a) × (a ≤ e)) × ((base + e < 262144) × (run .best ≤ 1152921504606846977)) ⌝ }
     requires { ⌜ dst + 4 * (e + 1) ≤ length (now ws) ⌝ }
@@ -288,18 +296,18 @@ fn prefix_on(ws: &mut [u64], dst: usize, run: Run, p: Quad, a: u64, e: u64, base
     let v = quadratic::lowest_min(p, base + a, base + e) - base;
     let w = quadratic::eval(p, base + v);
     if best <= w {
-        let all = flat_to(ws, dst, n, a, e + 1, best);
+        let all = constant_to(ws, dst, n, a, e + 1, best);
         return Run { n: all, best };
     }
-    let s = drops(p, best, a, v, base);
-    let before = flat_to(ws, dst, n, a, s, best);
+    let s = first_below(p, best, a, v, base);
+    let before = constant_to(ws, dst, n, a, s, best);
     let fallen = append(ws, dst, before, v, p);
-    let after = flat_to(ws, dst, fallen, v + 1, e + 1, w);
+    let after = constant_to(ws, dst, fallen, v + 1, e + 1, w);
     Run { n: after, best: w }
 }
 
 // dst: at each level the least of f's at that level and at those below.
-pub fn prefix_least(ws: &mut [u64], f: usize, dst: usize, levels: u64, base: u64)
+pub fn running_min(ws: &mut [u64], f: usize, dst: usize, levels: u64, base: u64)
     requires { ⌜ Lent (now ws) f dst (4 * levels) levels × (dst + 4 * levels ≤ length (now ws)) ⌝ }
     requires { ⌜ base + levels ≤ 262144 ⌝ }
     requires { ⌜ ((j : ℕ) → j < levels → Small (piece (now ws) f levels j) × (down (piece (now ws) f levels j) (base + j) ≤ up (piece (now ws) f levels j) (base + j))) ⌝ }
@@ -315,7 +323,7 @@ pub fn prefix_least(ws: &mut [u64], f: usize, dst: usize, levels: u64, base: u64
         let at = f + 4 * i;
         let e = ws[at];
         let p = load(ws, at);
-        run = prefix_on(ws, dst, run, p, x, e, base);
+        run = running_min_on(ws, dst, run, p, x, e, base);
         i += 1;
         x = e + 1;
     }
@@ -349,12 +357,12 @@ fn lower(best: Low, p: Quad, a: u64, b: u64, base: u64) -> Low
     }
 }
 
-// The least of f at the levels from .. to, and the lowest level that has it.
+// The least of f at the levels from .. to, and the lowest level that has it; more than none where there is no such level.
 pub fn least_in(ws: &[u64], f: usize, from: u64, to: u64, levels: u64, base: u64) -> Low
     requires { ⌜ Held (now ws) f levels × (base + levels ≤ 262144) ⌝ }
-    requires { ⌜ (from ≤ to) × (to < levels) ⌝ }
+    requires { ⌜ to < levels ⌝ }
     requires { ⌜ ((j : ℕ) → j < levels → Fine 1048576 18014398509481984 (piece (now ws) f levels j) (base + j)) ⌝ }
-    ensures { λ r. ⌜ Least (costs base (piece (now (ws .entry)) f levels)) from to r ⌝ }
+    ensures { λ r. ⌜ LeastIn (costs base (piece (now (ws .entry)) f levels)) from to r ⌝ }
 {
     let mut best = Low {
         value: quadratic::NONE + 1,
@@ -380,24 +388,42 @@ pub fn constant(ws: &mut [u64], dst: usize, levels: u64, c: u64)
     requires { ⌜ dst + 4 * levels ≤ length (now ws) ⌝ }
     ensures { λ r. ⌜ Made (λ (j : ℕ). flat c) (now (ws .entry)) (now (ws .exit)) dst levels ⌝ }
 {
-    flat_to(ws, dst, 0, 0, levels, c);
+    constant_to(ws, dst, 0, 0, levels, c);
 }
 
-// The list of f put at dst, in as many pieces as are returned.
+// The words of the list at f put at dst: four for each of the pieces, whose number is returned.
 pub fn copy(ws: &mut [u64], f: usize, dst: usize, levels: u64) -> usize
     requires { ⌜ Copyable (now ws) f dst levels × (levels ≤ 262144) ⌝ }
     ensures { λ r. ⌜ Copied (now (ws .entry)) (now (ws .exit)) f dst levels r ⌝ }
 {
+    let n = count(ws, f, levels);
     let mut i: usize = 0;
-    let mut n: usize = 0;
-    let mut x: u64 = 0;
-    while x < levels {
-        let at = f + 4 * i;
-        let e = ws[at];
-        let p = load(ws, at);
-        n = append(ws, dst, n, e, p);
+    while i < 4 * n {
+        ws[dst + i] = ws[f + i];
         i += 1;
-        x = e + 1;
     }
     n
+}
+
+// What f costs at level j.
+pub fn value_at(ws: &[u64], f: usize, j: u64, levels: u64, base: u64) -> u64
+    requires { ⌜ Held (now ws) f levels × (base + levels ≤ 262144) ⌝ }
+    requires { ⌜ j < levels ⌝ }
+    requires { ⌜ ((i : ℕ) → i < levels → Fine 1048576 18014398509481984 (piece (now ws) f levels i) (base + i)) ⌝ }
+    ensures { λ r. ⌜ r ≡ costs base (piece (now (ws .entry)) f levels) j ⌝ }
+{
+    least_in(ws, f, j, j, levels, base).value
+}
+
+// Whether f is one piece, none. (Equal neighbours are joined, so a list that is none everywhere is.)
+pub fn all_none(ws: &[u64], f: usize, levels: u64) -> bool
+    requires { ⌜ Held (now ws) f levels × ((0 < levels) × (levels ≤ 262144)) ⌝ }
+    ensures { λ r. ⌜ (r ≡ true → (j : ℕ) → j < levels → piece (now (ws .entry)) f levels j .c ≡ none) ⌝ }
+{
+    if ws[f] + 1 == levels {
+        if ws[f + 3] == quadratic::NONE {
+            return true;
+        }
+    }
+    false
 }

@@ -7,7 +7,9 @@ use lib.IntN.{ℤ, pos, negsuc, _+ℤ_, _-ℤ_, _*ℤ_}
 use lib.Signed.{_≤ℤ_, _<ℤ_, quotZ, remZ, mag}
 use mir.Syntax.{Width, w64}
 use mir.Val.{SFits, ofZ, hbits}
-use Rattle.integers.specs.Rep.{Rep, iz, nz, mz, neg, _⊕_, _⊖_, _⊗_, eqZ, leZof, ltZof, leN, ltN, sfitsOf}
+use Rattle.integers.specs.Rep.{Rep, iz, nz, mz, neg, _⊕_, _⊖_, _⊗_, eqZ, leZof, ltZof, leN, ltN, sfitsOf, by-gap⁺, le-or-ltZ}
+use mathlib.Core.Logic.{_⊎_, ⊎-elim}
+use Rattle.integers.specs.Floor.{floorDiv}
 
 -- z is quotient times divisor and remainder
 split : (z : ℤ) (b : ℕ) → quotZ z (pos b) *ℤ pos b +ℤ remZ z (pos b) ≡ z
@@ -49,6 +51,43 @@ module _ (b : ℕ) (h : 0 < b) where
 on-pos : (Q : ℤ → Type 0) (d : ℤ) → pos 0 <ℤ d → ((b : ℕ) → 0 < b → Q (pos b)) → Q d
 on-pos Q (pos b) h k = k b (omega (arith, ltN (nz 0) (nz b) h))
 on-pos Q (negsuc b) h k = absurd (h .lt)
+
+-- ---- the definition
+
+-- what lies in [q d, (q + 1) d) is no other multiple
+one-way : (b : ℕ) (n q r : ℤ) → Down n (pos b) q → Down n (pos b) r → r <ℤ q → ⊥
+one-way b n q r x y l =
+    by-gap⁺ (λ z. Down n (pos b) z → ⊥) r q l
+    (λ i w. omega (arith, ltN (iz n) ((iz r ⊕ nz 1) ⊗ nz b) (y .1), leN ((iz r ⊕ nz i ⊕ nz 1) ⊗ nz b) (iz n) (w .0)))
+    x
+
+pub down-one : (n d q r : ℤ) → pos 0 <ℤ d → Down n d q → Down n d r → q ≡ r
+down-one n d q r h = on-pos (λ e. Down n e q → Down n e r → q ≡ r) d h one
+  where
+    one : (b : ℕ) → 0 < b → Down n (pos b) q → Down n (pos b) r → q ≡ r
+    one b l x y = ⊎-elim (λ p. ⊎-elim (λ o. eqZ (iz q) (iz r) (omega (arith, leN (iz q) (iz r) p, leN (iz r) (iz q) o))) (λ o. absurd (one-way b n r q y x o)) (le-or-ltZ r q)) (λ p. absurd (one-way b n q r x y p)) (le-or-ltZ q r)
+
+-- the quotient rounded down is the one multiple that the definition names
+pub floor-down : (n d : ℤ) → pos 0 <ℤ d → Down n d (floorDiv n d)
+unfolding floorDiv
+floor-down n (negsuc b) h = absurd (h .lt)
+floor-down n (pos zero) h = absurd (h .lt)
+floor-down (pos a) (pos (suc b)) h =
+    (leZof (nz (a / suc b) ⊗ nz (suc b)) (nz a) (omega (arith, div-add-mod' a (suc b))), ltZof (nz a) ((nz (a / suc b) ⊕ nz 1) ⊗ nz (suc b)) (omega (arith, div-add-mod' a (suc b), mod-lt a (rest b))))
+  where
+    rest : (b : ℕ) → 0 < suc b
+    rest b = omega arith
+floor-down (negsuc a) (pos (suc b)) h =
+    (leZof (mz (a / suc b) ⊗ nz (suc b)) (mz a) (omega (arith, div-add-mod' a (suc b), mod-lt a (rest b))), ltZof (mz a) ((mz (a / suc b) ⊕ nz 1) ⊗ nz (suc b)) (omega (arith, div-add-mod' a (suc b))))
+  where
+    rest : (b : ℕ) → 0 < suc b
+    rest b = omega arith
+
+pub floor-other : (n d : ℤ) → d ≤ℤ pos 0 → floorDiv n d ≡ pos 0
+unfolding floorDiv
+floor-other n (negsuc b) h = refl
+floor-other n (pos zero) h = refl
+floor-other n (pos (suc b)) h = absurd (omega (arith, leN (nz (suc b)) (nz 0) h))
 
 module _ (n d : ℤ) (p : pos 0 <ℤ d) where
   pub divisor : 0 < ofZ w64 d

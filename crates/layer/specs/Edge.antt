@@ -1,66 +1,218 @@
--- One edge taken into the function so far. Assumes nothing.
-use mathlib.Core.Path.{_≡_}
-use mathlib.Core.List.{List}
-use Prim.Native.Nat.{ℕ, _+_, _*_, _-_, _≤_, _<_}
+-- One edge taken into the least so far. What an edge makes of a list is the model's `edgeMin`; the penalty is added by its `raise`.
+-- Assumes nothing.
+use mathlib.Core.Path.{_≡_, refl, sym, ap, _∙_, subst}
 use mathlib.Core.Logic.{_⊎_, inl, inr, ⊎-elim}
+use mathlib.Core.Bool.{Bool, true, false, cond}
+use mathlib.Core.List.{List}
+use Prim.Native.Nat.{ℕ, zero, suc, _+_, _*_, _-_, _≤_, _<_, min}
 use native.Mathlib.Omega.{arith}
-use lib.Dec.{leb}
-use borrow.Author.Tests.{le-leb, lt-leb}
-use Rattle.integers.specs.Rep.{le-or-lt}
+use native.Mathlib.Numerals.{add-one}
+use lib.Dec.{leb, ltb, eqb}
+use lib.ListN.{length, getD}
+use borrow.Author.Tests.{le-leb, lt-leb, lt-ltb, le-ltb, eq-eqb, ne-eqb}
+use lib.IntN.{ℤ, pos, _+ℤ_}
+use Rattle.integers.specs.Rep.{le-or-lt, iz, nz, _⊕_, eqN, eqZ}
 use Rattle.quadratic.specs.Quad.{none}
-use Rattle.quadratic.specs.Fine.{plus}
-use Rattle.curve.specs.Pieces.{pickN, piece, Kept, Apart}
-use Rattle.curve.specs.Lows.{costs, lowest, top, lowest-least, Among, lowest-among}
-use Rattle.curve.specs.Curve.{Curve, Limits, less}
+use Rattle.quadratic.specs.Fine.{plus, far, far-signed, square-most}
+use Rattle.curve.specs.Pieces.{pickN, piece, Kept, Same, Apart}
+use Rattle.curve.specs.Lists.{kept-same, count-most}
+use Rattle.curve.specs.Lows.{costs, lowest, top, lowest-zero, lowest-new, lowest-old}
+use Rattle.curve.specs.Curve.{Curve, Limits, less, curve-same, curve-costs, curve-wider}
+use Rattle.model.specs.Index.{noCost, prefixMin, suffixMin, upMin, downMin, edgeMin}
+use Rattle.model.specs.Held.{raise}
+use Rattle.model.specs.Model.{square, lossAt}
+use Rattle.layer.specs.declared.Temps.{Temps}
 
--- what the levels at least gap below cost
-abbrev pub upEdge : ℕ → (ℕ → ℕ) → ℕ → ℕ
-upEdge gap G j = pickN (leb gap j) (lowest G (j - gap + 1)) none
+-- what an edge of kind any makes of a list
+abbrev pub anyMin : ℕ → (ℕ → ℕ) → ℕ → ℕ
+anyMin L G j = prefixMin G (L - 1)
 
--- what the levels at least gap above cost: the same in the mirror
-abbrev pub downEdge : ℕ → ℕ → (ℕ → ℕ) → ℕ → ℕ
-downEdge L gap G j = upEdge gap (λ (i : ℕ). G (L - 1 - i)) (L - 1 - j)
-
--- the lists in hand: f is read, acc is the function so far, one and two are free, within the three temporaries at t
-pub record Hand (f acc one two t L : ℕ) : Type 0 where
-  pub f-one : Apart f one (4 * L)
-  pub f-two : Apart f two (4 * L)
-  pub acc-one : Apart acc one (4 * L)
-  pub acc-two : Apart acc two (4 * L)
-  pub one-two : Apart one two (4 * L)
-  pub low-one : t ≤ one
-  pub low-two : t ≤ two
-  pub high-one : one + 4 * L ≤ t + 12 * L
-  pub high-two : two + 4 * L ≤ t + 12 * L
-
--- a list that may be taken: within the bounds with pen to spare
+-- a list that may be taken: its values are none or less than B
 abbrev pub Sound : ℕ → ℕ → ℕ → List ℕ → ℕ → Type 0
 Sound B base L ws o = Curve 1048576 B base L ws o (costs base (piece ws o L))
 
-pub record Permits (gap : ℕ) (G : ℕ → ℕ) (j : ℕ) : Type 0 where
-  pub at : ℕ
-  pub from : at + gap ≤ j
-  pub is : upEdge gap G j ≡ G at
+-- ---- which words are changed
 
-pub record Taken (E : (ℕ → ℕ) → ℕ → ℕ) (pen base L : ℕ) (ws ws′ : List ℕ) (f acc one t : ℕ) : Type 0 where
-  pub kept : Kept ws ws′ t (12 * L)
-  pub curve : (A B C : ℕ) (F G : ℕ → ℕ) → Limits A B base L → C + pen ≤ B → Curve A B base L ws acc F → Curve A C base L ws f G → Curve A B base L ws′ one (λ (j : ℕ). less (F j) (plus pen (E G j)))
+-- the word i is outside the list at o
+abbrev pub Off : ℕ → ℕ → ℕ → Type 0
+Off o L i = (i < o) ⊎ (o + 4 * L ≤ i)
 
--- ---- an edge's cost is the least of those that it permits
-pub up-least : (gap : ℕ) (G : ℕ → ℕ) (i j : ℕ) → i + gap ≤ j → upEdge gap G j ≤ G i
-up-least gap G i j h = rw (le-leb gap j (omega arith)) (lowest-least G (j - gap + 1) i (omega arith))
+-- every word outside the lists at a, b and c is as before
+pub record Spared (a b c L : ℕ) (ws ws′ : List ℕ) : Type 0 where
+  pub size : length ws′ ≡ length ws
+  pub word : (i : ℕ) → Off a L i → Off b L i → Off c L i → getD ws′ i 0 ≡ getD ws i 0
 
-pub up-among : (gap : ℕ) (G : ℕ → ℕ) (j : ℕ) → ((i : ℕ) → i ≤ j → G i ≤ none) → (upEdge gap G j ≡ none) ⊎ Permits gap G j
-up-among gap G j f = ⊎-elim near (λ h. inl (far-off h)) (le-or-lt gap j)
+-- ---- which lists share no word
+
+-- f is read while next and work are written
+pub record Into (f next work L size : ℕ) : Type 0 where
+  pub f-next : Apart f next (4 * L)
+  pub f-work : Apart f work (4 * L)
+  pub next-work : Apart next work (4 * L)
+  pub room-next : next + 4 * L ≤ size
+  pub room-work : work + 4 * L ≤ size
+
+-- acc and g are read while next is written
+pub record Joint (t : Temps) (g L size : ℕ) : Type 0 where
+  pub acc-next : Apart (t .acc) (t .next) (4 * L)
+  pub g-next : Apart g (t .next) (4 * L)
+  pub room-next : t .next + 4 * L ≤ size
+
+-- the temporary lists and f share no word
+pub record Hand (t : Temps) (f L size : ℕ) : Type 0 where
+  pub into : Into f (t .next) (t .work) L size
+  pub acc-next : Apart (t .acc) (t .next) (4 * L)
+  pub acc-work : Apart (t .acc) (t .work) (4 * L)
+  pub f-acc : Apart f (t .acc) (4 * L)
+  pub room-acc : t .acc + 4 * L ≤ size
+
+-- what is asked for an edge from the list at f: there is room for the penalty
+pub record Ready (t : Temps) (f pen base L : ℕ) (ws : List ℕ) : Type 0 where
+  pub hand : Hand t f L (length ws)
+  pub low : pen ≤ 18014398509481984
+  pub some : 0 < L
+  pub limits : Limits 1048576 18014398509481984 base L
+  pub acc : Sound 18014398509481984 base L ws (t .acc)
+  pub from : Sound (18014398509481984 - pen) base L ws f
+
+-- ---- the contracts
+
+-- work is f by E; next and work are written
+pub record Moved (E : (ℕ → ℕ) → ℕ → ℕ) (base L : ℕ) (ws ws′ : List ℕ) (f next work : ℕ) : Type 0 where
+  pub spared : Spared next work work L ws ws′
+  pub curve : (A B : ℕ) (G : ℕ → ℕ) → Limits A B base L → Curve A B base L ws f G → Curve A B base L ws′ work (E G)
+
+abbrev pub swapped : Temps → Temps
+swapped t = record { acc = t .next; next = t .acc; work = t .work }
+
+-- next is the least of acc and of g with pen added, and is the new acc
+pub record Joined (pen base L : ℕ) (ws ws′ : List ℕ) (g : ℕ) (t r : Temps) : Type 0 where
+  pub order : r ≡ swapped t
+  pub kept : Kept ws ws′ (t .next) (4 * L)
+  pub curve : (A B C : ℕ) (F G : ℕ → ℕ) → Limits A B base L → C + pen ≤ B → Curve A B base L ws (t .acc) F → Curve A C base L ws g G → Curve A B base L ws′ (t .next) (λ (j : ℕ). min (F j) (raise (G j) pen))
+
+-- r is t, with acc and next in this order or the other
+abbrev pub Order : Temps → Temps → Type 0
+Order t r = (r ≡ t) ⊎ (r ≡ swapped t)
+
+-- the new acc is the least of acc and of f by E with pen added
+pub record Taken (E : (ℕ → ℕ) → ℕ → ℕ) (pen base L : ℕ) (ws ws′ : List ℕ) (f : ℕ) (t r : Temps) : Type 0 where
+  pub order : Order t r
+  pub spared : Spared (t .acc) (t .next) (t .work) L ws ws′
+  pub curve : (A B C : ℕ) (F G : ℕ → ℕ) → Limits A B base L → C + pen ≤ B → Curve A B base L ws (t .acc) F → Curve A C base L ws f G → Curve A B base L ws′ (r .acc) (λ (j : ℕ). min (F j) (raise (E G j) pen))
+
+-- dst is the list at f with w times the square of the distance from u
+pub record WithLoss (w u base L : ℕ) (ws ws′ : List ℕ) (f dst : ℕ) : Type 0 where
+  pub kept : Kept ws ws′ dst (4 * L)
+  pub curve : (A B : ℕ) (F : ℕ → ℕ) → Limits A B base L → Curve A B base L ws f F → Curve (A + w) (B + w * square-most) base L ws′ dst (λ (j : ℕ). raise (F j) (w * (far u (base + j) * far u (base + j))))
+
+-- ---- laws of what is spared
+pub spared-refl : (a b c L : ℕ) (ws : List ℕ) → Spared a b c L ws ws
+spared-refl a b c L ws = record { size = refl; word = λ i x y z. refl }
+
+pub spared-then : {a b c L : ℕ} {ws ws′ ws″ : List ℕ} → Spared a b c L ws ws′ → Spared a b c L ws′ ws″ → Spared a b c L ws ws″
+spared-then p q = record { size = q .size ∙ p .size; word = λ i x y z. q .word i x y z ∙ p .word i x y z }
+
+-- a write to one list
+pub kept-off : {o : ℕ} (L : ℕ) {ws ws′ : List ℕ} → Kept ws ws′ o (4 * L) → (i : ℕ) → Off o L i → getD ws′ i 0 ≡ getD ws i 0
+kept-off L k i = ⊎-elim (λ h. k .before i h) (λ h. k .after i h)
+
+-- a list elsewhere is as it was
+pub spared-curve : {A B base L a b c o : ℕ} {ws ws′ : List ℕ} {F : ℕ → ℕ} → Spared a b c L ws ws′ → Apart o a (4 * L) → Apart o b (4 * L) → Apart o c (4 * L) → Curve A B base L ws o F → Curve A B base L ws′ o F
+spared-curve {L = L} {a} {b} {c} {o} p x y z k = curve-same (p .size) k (record { word = λ i h g. p .word i (off a i h (omega (arith, count-most (k .held .formed))) x) (off b i h (omega (arith, count-most (k .held .formed))) y) (off c i h (omega (arith, count-most (k .held .formed))) z) })
   where
-    far-off : j < gap → upEdge gap G j ≡ none
-    far-off h = rw (lt-leb gap j h)
+    off : (d i : ℕ) → o ≤ i → i < o + 4 * L → Apart o d (4 * L) → Off d L i
+    off d i h g = ⊎-elim (λ q. inl (omega arith)) (λ q. inr (omega arith))
 
-    some : gap ≤ j → Among G (j - gap + 1) → Permits gap G j
-    some h a = record { at = a .at; from = omega (arith, a .inside); is = rw (le-leb gap j h) (a .is) }
+-- what is written lies within the words from s on
+pub spared-kept : {a b c L : ℕ} {ws ws′ : List ℕ} (s n : ℕ) → (s ≤ a) × (a + 4 * L ≤ s + n) → (s ≤ b) × (b + 4 * L ≤ s + n) → (s ≤ c) × (c + 4 * L ≤ s + n) → Spared a b c L ws ws′ → Kept ws ws′ s n
+spared-kept s n x y z p = record {
+  size = p .size;
+  before = λ i h. p .word i (inl (omega arith)) (inl (omega arith)) (inl (omega arith));
+  after = λ i h. p .word i (inr (omega arith)) (inr (omega arith)) (inr (omega arith));
+}
 
-    never : gap ≤ j → lowest G (j - gap + 1) ≡ top → ⊥
-    never h t = omega (arith, lowest-least G (j - gap + 1) 0 (omega arith), f 0 (omega arith))
+-- ---- laws of order
+pub apart-swap : (o p len : ℕ) → Apart o p len → Apart p o len
+apart-swap o p len = ⊎-elim (λ h. inr h) (λ h. inl h)
 
-    near : gap ≤ j → (upEdge gap G j ≡ none) ⊎ Permits gap G j
-    near h = ⊎-elim (λ t. absurd (never h t)) (λ a. inr (some h a)) (lowest-among G (j - gap + 1))
+pub hand-swap : {t : Temps} {f L n : ℕ} → Hand t f L n → Hand (swapped t) f L n
+hand-swap {t} {f} {L} h = record {
+  into = record { f-next = h .f-acc; f-work = h .into .f-work; next-work = h .acc-work; room-next = h .room-acc; room-work = h .into .room-work };
+  acc-next = apart-swap (t .acc) (t .next) (4 * L) (h .acc-next);
+  acc-work = h .into .next-work;
+  f-acc = h .into .f-next;
+  room-acc = h .into .room-next;
+}
+
+pub hand-order : {t r : Temps} {f L n : ℕ} → Order t r → Hand t f L n → Hand r f L n
+hand-order {f = f} {L} {n} o h = ⊎-elim (λ e. subst (λ (x : Temps). Hand x f L n) (sym e) h) (λ e. subst (λ (x : Temps). Hand x f L n) (sym e) (hand-swap h)) o
+
+pub order-then : {t r s : Temps} → Order t r → Order r s → Order t s
+order-then {t} {r} {s} p q = ⊎-elim
+    (λ e. ⊎-elim (λ g. inl (g ∙ e)) (λ g. inr (g ∙ ap swapped e)) q)
+    (λ e. ⊎-elim (λ g. inr (g ∙ e)) (λ g. inl (g ∙ ap swapped e)) q)
+    p
+
+pub spared-order : {t r : Temps} {L : ℕ} {ws ws′ : List ℕ} → Order t r → Spared (r .acc) (r .next) (r .work) L ws ws′ → Spared (t .acc) (t .next) (t .work) L ws ws′
+spared-order {t} {r} {L} {ws} {ws′} o s = ⊎-elim
+    (λ e. subst (λ (x : Temps). Spared (x .acc) (x .next) (x .work) L ws ws′) e s)
+    (λ e. other (subst (λ (x : Temps). Spared (x .acc) (x .next) (x .work) L ws ws′) e s))
+    o
+  where
+    other : Spared (t .next) (t .acc) (t .work) L ws ws′ → Spared (t .acc) (t .next) (t .work) L ws ws′
+    other q = record { size = q .size; word = λ i x y z. q .word i y x z }
+
+-- ---- the model's numbers and the lists'
+pub less-min : (x y : ℕ) → less x y ≡ min x y
+less-min x y = ⊎-elim (λ h. rw (le-leb x y h) (omega arith)) (λ h. rw (lt-leb x y h) (omega arith)) (le-or-lt x y)
+
+pub plus-raise : (k x : ℕ) → x ≤ none → plus k x ≡ raise x k
+unfolding raise
+plus-raise k x h = ⊎-elim
+    (λ g. let e : x ≡ none = omega arith in rw (eq-eqb x none e, le-ltb x noCost (omega arith)))
+    (λ g. rw (ne-eqb x none (λ e. omega arith), lt-ltb x noCost (omega arith)))
+    (le-or-lt none x)
+
+pub lowest-prefix : (G : ℕ → ℕ) (j : ℕ) → ((i : ℕ) → i ≤ j → G i ≤ none) → lowest G (j + 1) ≡ prefixMin G j
+unfolding prefixMin
+lowest-prefix G zero f = lowest-new G 0 (omega (arith, lowest-zero G, f 0 (omega arith)))
+lowest-prefix G (suc j) f =
+    let z : suc j ≡ j + 1 = omega arith in
+    let e : lowest G (suc j) ≡ prefixMin G j = rw z (lowest-prefix G j (λ i h. f i (omega arith))) in
+    ⊎-elim
+    (λ h. lowest-old G (suc j) h ∙ (omega arith))
+    (λ h. lowest-new G (suc j) h ∙ (omega arith))
+    (le-or-lt (lowest G (suc j)) (G (suc j)))
+
+pub raise-none : (x k : ℕ) → none ≤ x → raise x k ≡ x
+unfolding raise
+raise-none x k h = rw (le-ltb x noCost (omega arith))
+
+raise-some : (x k : ℕ) → x < none → raise x k ≡ x + k
+unfolding raise
+raise-some x k h = rw (lt-ltb x noCost (omega arith))
+
+pub min-regroup : (x y z w : ℕ) → min y z ≡ w → min (min x y) z ≡ min x w
+min-regroup x y z w e = omega arith
+
+-- the penalty is added to the lesser
+pub raise-min : (x y k : ℕ) → (x < none → x + k ≤ none) → (y < none → y + k ≤ none) → min (raise x k) (raise y k) ≡ raise (min x y) k
+raise-min x y k f g = ⊎-elim
+    (λ h. ⊎-elim
+    (λ i. rw (raise-none x k h, raise-none y k i) (sym (raise-none (min x y) k (omega arith))))
+    (λ i. rw (raise-none x k h, raise-some y k i) (omega (arith, g i, raise-some (min x y) k (omega arith))))
+    (le-or-lt none y))
+    (λ h. ⊎-elim
+    (λ i. rw (raise-some x k h, raise-none y k i) (omega (arith, f h, raise-some (min x y) k (omega arith))))
+    (λ i. rw (raise-some x k h, raise-some y k i) (omega (arith, raise-some (min x y) k (omega arith))))
+    (le-or-lt none y))
+    (le-or-lt none x)
+
+-- ---- the loss of a reading: its place is u, and that of the lowest level is base
+module _ (zs : List ℤ) (t : ℕ) (lo : ℤ) (u base : ℕ) (at : pos u ≡ getD zs t (pos 0) +ℤ pos 163840) (from : pos base ≡ lo +ℤ pos 163840) where
+  pub loss-place : (j : ℕ) → far u (base + j) * far u (base + j) ≡ lossAt zs t (lo +ℤ pos j)
+  unfolding lossAt square
+  loss-place j =
+      let e = far-signed (getD zs t (pos 0)) (lo +ℤ pos j) u (base + j) at (eqZ (nz (base + j)) (iz lo ⊕ nz j ⊕ nz 163840) (omega (arith, eqN (nz base) (iz lo ⊕ nz 163840) from))) in
+      rw e

@@ -1,5 +1,6 @@
--- What the plan check guarantees of a plan. Assumes nothing.
-use mathlib.Core.Path.{_≡_, refl, sym}
+-- What the plan check (`planNumber P ≡ 0`), and a search or a point that no earlier number refuses, ensure: the proofs of the model rest on
+-- these facts alone, and none is assumed. Assumes nothing.
+use mathlib.Core.Path.{_≡_, refl, sym, _∙_}
 use mathlib.Core.Bool.{Bool, true, false}
 use mathlib.Core.Logic.{_⊎_, inl, inr}
 use mathlib.Core.List.{List}
@@ -9,11 +10,11 @@ use native.Mathlib.Numerals.{unary-clauses}
 use native.Mathlib.Nat.{div-eq-of-lt, pow-le-pow-right}
 use native.Mathlib.Decide.{decLt, ℕ-discrete}
 use lib.Dec.{leb, ltb, eqb}
-use borrow.Author.Tests.{ltb-true, ltb-false, leb-true, leb-false, eqb-true, eqb-false, le-leb}
+use borrow.Author.Tests.{ltb-true, ltb-false, leb-true, leb-false, eqb-true, eqb-false, le-leb, eq-eqb}
 use lib.IntN.{ℤ, pos, negsuc, _-ℤ_}
 use lib.Signed.{leZ, ltZ, leZ-yes}
 use Rattle.integers.specs.Rep.{iz, nz, _⊕_, _⊖_, eqN, leN, holds}
-use lib.ListN.{length, getD}
+use lib.ListN.{getD}
 use Rattle.plan.specs.declared.Plan.{Plan}
 use Rattle.plan.specs.declared.Edge.{Edge}
 use Rattle.plan.specs.declared.Label.{Label}
@@ -21,18 +22,22 @@ use Rattle.plan.specs.declared.KindRead.the-variants.{Wrong}
 use Rattle.plan.specs.declared.EdgeRead.{EdgeRead}
 use Rattle.plan.specs.declared.EdgeRead.the-variants.{Is, Not}
 use Rattle.plan.specs.declared.EdgeStep.the-variants.{RefuseEdge}
-use Rattle.plan.specs.Build.{pick, anyBelow, firstBelow, kindNumber, gapOf, kindOf, kindAt, withKind, edgeOf, hasEdge, noEdge, noLabel, readEdge, freshEdge, edgeStep, edgeStepNumber, entryNumber, edgesNumber, labelNumber, labelsNumber, gridOk, maskOk, statesOk, openNumber, orElse, planNumber}
-use Rattle.model.specs.Grid.{above, above-add, no-way}
-use Rattle.model.specs.Model.{edgeAt, labelAt, inSet, onGrid, need}
-use Rattle.model.specs.Labels.{LabelsInOrder}
-use Rattle.model.specs.Opt.{width, counts}
-use Rattle.model.specs.Answer.{Fit}
+use Rattle.plan.specs.Build.{pick, anyBelow, firstBelow, kindNumber, gapOf, kindOf, kindAt, withKind, edgeOf, sameEdge, hasEdge, noEdge, noLabel, readEdge, freshEdge, edgeStep, edgeStepNumber, entryNumber, edgesNumber, labelNumber, labelsNumber, gridOk, maskOk, statesOk, openNumber, orElse, planNumber}
+use Rattle.model.specs.Model.{edgeAt, labelAt, above, width, inSet, onGrid}
+use Rattle.model.specs.Bools.{clash}
+use Rattle.model.specs.Grid.{above-add}
+unfoldable pub use Rattle.model.specs.Refusals.{countOk, late, searchNumber, pointNumber}
 
 pub record GoodEdge (P : Plan) (e : ℕ) : Type 0 where
   pub from-below : edgeAt P e .from < P .states
   pub to-below : edgeAt P e .to < P .states
   pub class-low : edgeAt P e .class ≤ 15
   pub gap-low : gapOf (edgeAt P e .kind) ≤ 1023
+
+pub record LabelsInOrder (P : Plan) : Type 0 where
+  pub positive : (i : ℕ) → i < P .labelcount → 1 ≤ labelAt P i .p
+  pub proper : (i : ℕ) → i < P .labelcount → labelAt P i .p < labelAt P i .q
+  pub apart : (i j : ℕ) → i < j → j < P .labelcount → labelAt P i .q ≤ labelAt P j .p
 
 pub record Checked (P : Plan) : Type 0 where
   pub grid : leZ (P .lo) (P .hi) ≡ true
@@ -44,6 +49,8 @@ pub record Checked (P : Plan) : Type 0 where
   pub few-edges : P .edgecount ≤ 32
   pub few-labels : P .labelcount ≤ 64
   pub edge : (e : ℕ) → e < P .edgecount → GoodEdge P e
+  pub distinct : (e e′ : ℕ) → e < P .edgecount → e′ < P .edgecount → edgeAt P e .from ≡ edgeAt P e′ .from → edgeAt P e .to ≡ edgeAt P e′ .to
+      → kindNumber (edgeAt P e .kind) ≡ kindNumber (edgeAt P e′ .kind) → e ≡ e′
   pub labels : LabelsInOrder P
   pub low : (i : ℕ) → i < P .labelcount → labelAt P i .q ≤ 4096
   pub small : (i : ℕ) → i < P .labelcount → labelAt P i .c ≤ 1
@@ -66,12 +73,12 @@ or-zero a b p = go (eqb a 0) refl p
     go false e q = absurd (eqb-false a 0 e q)
 
 yes-if : (b x : Bool) → pick b false x ≡ true → (b ≡ false) × (x ≡ true)
-yes-if true x p = no-way p
+yes-if true x p = clash p
 yes-if false x p = (refl, p)
 
 yes-both : (b x : Bool) → pick b x false ≡ true → (b ≡ true) × (x ≡ true)
 yes-both true x p = (refl, p)
-yes-both false x p = no-way p
+yes-both false x p = clash p
 
 first-zero : (f : ℕ → ℕ) (n i : ℕ) → firstBelow f n ≡ 0 → i < n → f i ≡ 0
 unfolding firstBelow
@@ -84,11 +91,21 @@ first-zero f (suc n) i p h =
     go a b (yes e) ih = rw e b
     go a b (no e) ih = ih a (omega arith)
 
+any-not : (f : ℕ → Bool) (n i : ℕ) → anyBelow f n ≡ false → i < n → f i ≡ false
+unfolding anyBelow
+any-not f zero i p h = absurd (omega arith)
+any-not f (suc n) i p h = go (anyBelow f n) refl p (ℕ-discrete i n) (any-not f n i)
+  where
+    go : (b : Bool) → anyBelow f n ≡ b → pick b true (f n) ≡ false → Dec (i ≡ n) → (anyBelow f n ≡ false → i < n → f i ≡ false) → f i ≡ false
+    go true e q d ih = clash (sym q)
+    go false e q (yes k) ih = rw k q
+    go false e q (no k) ih = ih e (omega arith)
+
 -- ---- opening
 
 grid-le : (lo hi : ℤ) → ltZ hi lo ≡ false → leZ lo hi ≡ true
 grid-le (pos a) (pos b) h = le-leb a b (ltb-false b a h)
-grid-le (pos a) (negsuc b) h = no-way (sym h)
+grid-le (pos a) (negsuc b) h = clash (sym h)
 grid-le (negsuc a) (pos b) h = refl
 grid-le (negsuc a) (negsuc b) h = le-leb b a (ltb-false a b h)
 
@@ -218,6 +235,27 @@ module _ (P : Plan) (h : planNumber P ≡ 0) where
   unfolding labelsNumber
   label i k = first-zero (λ i. labelNumber (P .labels) i (getD (P .labels) i noLabel)) (P .labelcount) i (parts .2) k
 
+  -- an edge that is like an earlier one is refused (7)
+  not-twice : (i j : ℕ) → i < j → j < P .edgecount → edgeAt P i .from ≡ edgeAt P j .from → edgeAt P i .to ≡ edgeAt P j .to
+      → kindNumber (edgeAt P i .kind) ≡ kindNumber (edgeAt P j .kind) → ⊥
+  unfolding hasEdge
+  not-twice i j h k a b c =
+      let f = edgeAt P j .from in
+      let t = edgeAt P j .to in
+      let n = kindNumber (edgeAt P j .kind) in
+      let e : sameEdge (edgeAt P i) f t n ≡ false = any-not (λ i. sameEdge (getD (P .edges) i noEdge) f t n) j i (entry-good (P .states) (P .edges) j (edgeAt P j) (entry j k) .2) h in
+      let e′ : sameEdge (edgeAt P i) f t n ≡ true = rw (eq-eqb (edgeAt P i .from) f a, eq-eqb (edgeAt P i .to) t b, eq-eqb (kindNumber (edgeAt P i .kind)) n c) refl in
+      clash (sym e ∙ e′)
+
+  one-edge : (e e′ : ℕ) → e < P .edgecount → e′ < P .edgecount → edgeAt P e .from ≡ edgeAt P e′ .from → edgeAt P e .to ≡ edgeAt P e′ .to
+      → kindNumber (edgeAt P e .kind) ≡ kindNumber (edgeAt P e′ .kind) → e ≡ e′
+  one-edge e e′ h h′ a b c = go (decLt e e′) (decLt e′ e)
+    where
+      go : Dec (e < e′) → Dec (e′ < e) → e ≡ e′
+      go (yes l) d = absurd (not-twice e e′ l h′ a b c)
+      go (no l) (yes d) = absurd (not-twice e′ e d h (sym a) (sym b) (sym c))
+      go (no l) (no d) = omega arith
+
   pub checked : Checked P
   unfolding width
   checked =
@@ -237,6 +275,7 @@ module _ (P : Plan) (h : planNumber P ≡ 0) where
         few-edges = count-low (P .edgecount) 32 (λ i k. entry-good (P .states) (P .edges) i (edgeAt P i) (entry i k) .0);
         few-labels = count-low (P .labelcount) 64 (λ i k. label-good (P .labels) i (labelAt P i) (label i k) .0);
         edge = λ e k. let q = entry-good (P .states) (P .edges) e (edgeAt P e) (entry e k) .1 in record { from-below = q .0; to-below = q .1; class-low = q .2; gap-low = q .3 };
+        distinct = one-edge;
         labels = record {
           positive = λ i k. label-good (P .labels) i (labelAt P i) (label i k) .1;
           proper = λ i k. label-good (P .labels) i (labelAt P i) (label i k) .2;
@@ -246,20 +285,7 @@ module _ (P : Plan) (h : planNumber P ≡ 0) where
         small = λ i k. label-good (P .labels) i (labelAt P i) (label i k) .4;
       }
 
--- ---- the refusals of a search and of a cost at a point before they look at what is lent: 0 where none applies
-
-unfoldable pub countOk : ℕ → Bool
-countOk n = pick (eqb n 0) false (leb n 4096)
-
--- a label's q is above n
-unfoldable pub late : Plan → ℕ → Bool
-late P n = anyBelow (λ i. ltb n (labelAt P i .q)) (P .labelcount)
-
-unfoldable pub searchNumber : Plan → ℕ → ℕ
-searchNumber P n = orElse (planNumber P) (pick (P .sealed) (pick (countOk n) (pick (late P n) 13 0) 9) 11)
-
-unfoldable pub pointNumber : Plan → ℕ → ℕ → ℤ → ℕ
-pointNumber P n s m = orElse (planNumber P) (pick (P .sealed) (pick (countOk n) (pick (ltb s (P .states)) (pick (onGrid P m) 0 4) 5) 9) 11)
+-- ---- a search or a point that no number refuses
 
 pub record Accepted (P : Plan) (n : ℕ) : Type 0 where
   pub plan : Checked P
@@ -276,22 +302,20 @@ pub record AcceptedPoint (P : Plan) (n s : ℕ) (m : ℤ) : Type 0 where
   pub state : s < P .states
   pub level : onGrid P m ≡ true
 
-any-not : (f : ℕ → Bool) (n i : ℕ) → anyBelow f n ≡ false → i < n → f i ≡ false
-unfolding anyBelow
-any-not f zero i p h = absurd (omega arith)
-any-not f (suc n) i p h = go (anyBelow f n) refl p (ℕ-discrete i n) (any-not f n i)
-  where
-    go : (b : Bool) → anyBelow f n ≡ b → pick b true (f n) ≡ false → Dec (i ≡ n) → (anyBelow f n ≡ false → i < n → f i ≡ false) → f i ≡ false
-    go true e q d ih = no-way (sym q)
-    go false e q (yes k) ih = rw k q
-    go false e q (no k) ih = ih e (omega arith)
-
 count-ok : (n : ℕ) → countOk n ≡ true → (1 ≤ n) × (n ≤ 4096)
 unfolding countOk
 count-ok n h =
     let (a, b) = yes-if (eqb n 0) (leb n 4096) h in
     let z : n ≡ 0 → ⊥ = eqb-false n 0 a in
     (omega (arith, z), leb-true n 4096 b)
+
+pub built-search : (P : Plan) (n : ℕ) → searchNumber P n ≡ 0 → planNumber P ≡ 0
+unfolding searchNumber
+built-search P n h = or-zero (planNumber P) _ h .0
+
+pub built-point : (P : Plan) (n s : ℕ) (m : ℤ) → pointNumber P n s m ≡ 0 → planNumber P ≡ 0
+unfolding pointNumber
+built-point P n s m h = or-zero (planNumber P) _ h .0
 
 pub accepted : (P : Plan) (n : ℕ) → searchNumber P n ≡ 0 → Accepted P n
 unfolding searchNumber late
@@ -373,11 +397,3 @@ point-low P n s m =
     pick-low (eqb (planNumber P) 0) _ (planNumber P) 12
     (pick-low (P .sealed) _ 11 12 (pick-low (countOk n) _ 9 12 (pick-low (ltb s (P .states)) _ 5 12 (pick-low (onGrid P m) 0 4 12 (omega arith) (omega arith)) (omega arith)) (omega arith)) (omega arith))
     (plan-low P)
-
--- what the theorems of `Answer` and `Opt` ask
-pub fit : (P : Plan) (zs : List ℤ) → Accepted P (length zs) → Fit P zs
-fit P zs a = record { labels = a .plan .labels; ends = a .plan .ends; closed = a .closed; record′ = a .some-readings }
-
-pub need-low : (P : Plan) → Checked P → (i : ℕ) → i < P .labelcount → need (labelAt P i) < counts
-unfolding need
-need-low P c i h = omega (arith, c .small i h)

@@ -1,8 +1,10 @@
--- The answer from the last layer as code holds it: the cost at a point, the best end, and the runs by the walk back. With this the whole
--- search is: `first-holding`, `next-holding` once a reading, `end-none` or `end-found`, and `step-back` once a reading. Assumes nothing.
+-- The results from the last layer as code holds it. What code has to show, once no number of `Refusals` refuses (`refused-by`,
+-- `point-refused-by`): `Holding` of the layer after all readings. A point: the least over the counts (`point-by`). A search: the least end, none
+-- of them (`none-by`) or the lowest state and level that has it (`found-by`); then for each step back the lowest edge and level (`walk-on`, and
+-- `earlier-value` for the next step), down to `walk-first`. Each law ends in `resultOf`. Assumes nothing.
 use mathlib.Core.Path.{_≡_, refl, sym, _∙_, ap}
 use mathlib.Core.Logic.{_⊎_, inl, inr}
-use mathlib.Core.Option.{Option, none, some, Option·map, Option·getD}
+use mathlib.Core.Option.{Option, none, some, Option·map}
 use mathlib.Core.List.{List, [], _∷_, reverse}
 use mathlib.Core.Bool.{Bool, true, false, cond}
 use Prim.Native.Nat.{ℕ, zero, suc, _+_, _*_, _≤_, _<_}
@@ -10,43 +12,46 @@ use native.Mathlib.Omega.{arith}
 use native.Mathlib.Nat.{mul-le-mul}
 use lib.IntN.{ℤ, pos, negsuc, natAbs, _+ℤ_, _-ℤ_}
 use lib.ListN.{length, getD}
-use lib.Signed.{leZ, mag, leZ-yes}
+use lib.Signed.{leZ, mag}
 use Rattle.integers.specs.Rep as R
-use Rattle.integers.specs.Rep.{iz, _⊖_, leN, holds}
+use Rattle.integers.specs.Rep.{iz, _⊖_}
 use Rattle.plan.specs.declared.Plan.{Plan}
-use Rattle.model.specs.Cost.{Cost, value, nothing}
-use Rattle.model.specs.Layers.{readings}
-use Rattle.model.specs.Grid.{and-yes}
-use Rattle.model.specs.Least.{leastBelow, given, firstHit, first-hit-is, Upto}
-use Rattle.model.specs.Model.{edgeAt, penalty, inSet, onGrid, lossAt, square}
+use Rattle.model.specs.Cost.{Cost, value}
+use Rattle.model.specs.Bools.{and-yes}
+use Rattle.model.specs.Grid.{leZ-nat, abs-is}
+use Rattle.model.specs.Least.{given, firstHit, first-hit-is, Upto}
+use Rattle.model.specs.Model.{edgeAt, width, penaltyOf, inSet, onGrid, lossAt, square}
 use Rattle.model.specs.Checked.{Checked, searchNumber, pointNumber, accepted, accepted-point}
-use Rattle.model.specs.Result.{whole, point, found, refused, foundSeg, foundCost, unless-none, resultOf, searched, searched-right}
-use Rattle.model.specs.Edges.{fromCount}
-use Rattle.model.specs.Search.{Node, node}
-use Rattle.model.specs.Opt.{opt, width, counts, offer, before, pointBest, pointCost}
-use Rattle.model.specs.Answer.{endCost, leastEnd, answer, trace, trace-right}
-use Rattle.model.specs.Runs.{run, joins, wayBack, walkBack, walk-step, walk-runs, runs, runs-from, backFrom, runNumbers, numbers}
-use Rattle.model.specs.Index.{noCost, held, held-some, some-held, none-held, edgeMin, Permitted, permitted-yes, yes-permitted}
-use Rattle.model.specs.Held.{penaltyMost, Table, Holding, minBelow, held-least, held-given, least-ext, leadsAt, leads-count, step-back, firstTable, nextTable, first-holding, next-holding}
+use Rattle.model.specs.Result.{whole, point, found, refused, foundSeg, foundCost, resultOf}
+use Rattle.model.specs.Demand3.{demand3, unless-none}
+use Rattle.model.specs.Agree.{searched, searched-right}
+use Rattle.model.specs.Nodes.{Node, node}
+use Rattle.model.specs.Labels.{counts}
+use Rattle.model.specs.Opt.{opt, before, pointBest, pointCost}
+use Rattle.model.specs.Answer.{endCost, leastEnd, answer, trace, trace-right, way-is}
+use Rattle.model.specs.Run.{run, joins, runs, runNumbers, numbers}
+use Rattle.model.specs.Runs.{wayBack, walkBack, walk-step, walk-runs, runs-from, backFrom}
+use Rattle.model.specs.Index.{noCost, held, held-some, some-held, none-held, Permitted, permitted-yes, yes-permitted}
+use Rattle.model.specs.Held.{penaltyMost, Table, edgeLeast, Holding, minBelow, held-least, held-given, least-ext, fromCount, leadsAt, leads-count, step-back, firstTable, nextTable, first-holding, next-holding}
 
 -- ---- the losses of 16-bit numbers
 
-most : (z : ℤ) → mag z < 32768 → (R.above z < 32768) × (R.below z ≤ 32768) × ((R.above z ≡ 0) ⊎ (R.below z ≡ 0))
-most (pos a) h = (h, omega arith, inr refl)
-most (negsuc a) h = (omega arith, h, inl refl)
-
-one-side : (z : ℤ) → (natAbs z ≡ R.above z + R.below z) × ((R.above z ≡ 0) ⊎ (R.below z ≡ 0))
-one-side (pos a) = (omega arith, inr refl)
-one-side (negsuc a) = (omega arith, inl refl)
+signed-16 : (z : ℤ) → mag z < 32768 → (R.above z < 32768) × (R.below z ≤ 32768)
+signed-16 (pos a) h = (h, omega arith)
+signed-16 (negsuc a) h = (omega arith, h)
 
 far : (z m lo hi : ℤ) → mag z < 32768 → mag lo < 32768 → mag hi < 32768 → leZ lo m ≡ true → leZ m hi ≡ true → natAbs (z -ℤ m) ≤ 65535
-far z m lo hi hz hl hh p q = go (one-side m .1) (one-side (z -ℤ m) .1)
+far z m lo hi hz hl hh p q = go (abs-is (z -ℤ m)) (signed-16 z hz) (signed-16 lo hl) (signed-16 hi hh) (leZ-nat lo m p) (leZ-nat m hi q) ((iz z ⊖ iz m) .is)
   where
-    go : (R.above m ≡ 0) ⊎ (R.below m ≡ 0) → (R.above (z -ℤ m) ≡ 0) ⊎ (R.below (z -ℤ m) ≡ 0) → natAbs (z -ℤ m) ≤ 65535
-    go (inl a) (inl b) = omega (arith, most z hz, most lo hl, most hi hh, one-side (z -ℤ m), leN (iz lo) (iz m) (leZ-yes (holds p)), leN (iz m) (iz hi) (leZ-yes (holds q)), (iz z ⊖ iz m) .is)
-    go (inl a) (inr b) = omega (arith, most z hz, most lo hl, most hi hh, one-side (z -ℤ m), leN (iz lo) (iz m) (leZ-yes (holds p)), leN (iz m) (iz hi) (leZ-yes (holds q)), (iz z ⊖ iz m) .is)
-    go (inr a) (inl b) = omega (arith, most z hz, most lo hl, most hi hh, one-side (z -ℤ m), leN (iz lo) (iz m) (leZ-yes (holds p)), leN (iz m) (iz hi) (leZ-yes (holds q)), (iz z ⊖ iz m) .is)
-    go (inr a) (inr b) = omega (arith, most z hz, most lo hl, most hi hh, one-side (z -ℤ m), leN (iz lo) (iz m) (leZ-yes (holds p)), leN (iz m) (iz hi) (leZ-yes (holds q)), (iz z ⊖ iz m) .is)
+    d : ℤ
+    d = z -ℤ m
+
+    go : ((natAbs d ≡ R.above d) × (R.below d ≡ 0)) ⊎ ((natAbs d ≡ R.below d) × (R.above d ≡ 0))
+        → (R.above z < 32768) × (R.below z ≤ 32768) → (R.above lo < 32768) × (R.below lo ≤ 32768) → (R.above hi < 32768) × (R.below hi ≤ 32768)
+        → R.above lo + R.below m ≤ R.above m + R.below lo → R.above m + R.below hi ≤ R.above hi + R.below m → R.above z + R.below m + R.below d ≡ R.above d + (R.below z + R.above m)
+        → natAbs d ≤ 65535
+    go (inl x) a b c e f g = omega arith
+    go (inr x) a b c e f g = omega arith
 
 abbrev pub lossMost : ℕ
 lossMost = 65535 * 65535
@@ -78,7 +83,7 @@ module _ (P : Plan) (zs : List ℤ) (H : Table) (hold : Holding P zs (length zs)
   pub point-held : (s j : ℕ) → s < P .states → j < width P → pointCost P zs s (P .lo +ℤ pos j) ≡ held (pointAt H s j)
   unfolding pointCost pointBest pointAt value
   point-held s j hs hj =
-      ap (Option·map value) (sym (held-least counts (λ k. H k s j) ∙ least-ext counts (λ k. held (H k s j)) (λ k. opt P zs (length zs) (node k s (P .lo +ℤ pos j))) (λ k hk. hold .at k s j hk hs hj)))
+      ap (Option·map value) (sym (held-least counts (λ k. H k s j) ∙ least-ext counts _ _ (λ k hk. hold .at k s j hk hs hj)))
       ∙ same (held (minBelow counts (λ k. H k s j)))
     where
       same : (o : Option Cost) → Option·map (λ (x : ℕ). x) o ≡ o
@@ -93,8 +98,7 @@ module _ (P : Plan) (zs : List ℤ) (H : Table) (hold : Holding P zs (length zs)
   unfolding leastEndAt leastEnd
   least-end =
       held-least (P .states) (λ s. minBelow (width P) (λ j. endAt P H s j))
-      ∙ least-ext (P .states) (λ s. held (minBelow (width P) (λ j. endAt P H s j))) (λ s. leastBelow (width P) (λ j. endCost P zs s j))
-      (λ s hs. held-least (width P) (λ j. endAt P H s j) ∙ least-ext (width P) (λ j. held (endAt P H s j)) (λ j. endCost P zs s j) (λ j hj. end-held s j hs hj))
+      ∙ least-ext (P .states) _ _ (λ s hs. held-least (width P) (λ j. endAt P H s j) ∙ least-ext (width P) _ _ (λ j hj. end-held s j hs hj))
 
   pub end-none : noCost ≤ leastEndAt P H → answer P zs ≡ none
   unfolding answer
@@ -135,14 +139,14 @@ module _ (P : Plan) (zs : List ℤ) (ch : Checked P) (W : ℕ) (losses : (t : �
   before-count e = fromCount P (suc t) e k
 
   abbrev rest : ℕ → ℕ
-  rest e = penalty (edgeAt P e .class) + lossAt zs (suc t) (P .lo +ℤ pos j)
+  rest e = penaltyOf P e + lossAt zs (suc t) (P .lo +ℤ pos j)
 
   -- what is found one reading earlier
   abbrev heldAt : ℕ → ℕ → ℕ
   heldAt e i = H (before-count e) (edgeAt P e .from) i
 
   abbrev offers : ℕ → ℕ
-  offers e = edgeMin (width P) (edgeAt P e .kind) (heldAt e) j
+  offers e = edgeLeast P (suc t) H k j e
 
   -- the edge leads here, and its least over the permitted levels meets the value
   abbrev Meets : ℕ → Type 0
@@ -154,12 +158,9 @@ module _ (P : Plan) (zs : List ℤ) (ch : Checked P) (W : ℕ) (losses : (t : �
     abbrev earlier : Node
     earlier = node (before-count e) (edgeAt P e .from) (P .lo +ℤ pos i)
 
-    way-is : wayBack P zs t (node k s (P .lo +ℤ pos j)) ≡ some (e, i)
-    unfolding wayBack
-    way-is =
-        let v : Node = node k s (P .lo +ℤ pos j) in
-        let q : Option·getD (opt P zs (suc (suc t)) v) nothing ≡ c = rw value-is refl in
-        ap (firstHit (P .edgecount) (width P) (offer P zs (suc t) (opt P zs (suc t)) v)) q
+    step-is : wayBack P zs t (node k s (P .lo +ℤ pos j)) ≡ some (e, i)
+    step-is =
+        way-is P zs t (node k s (P .lo +ℤ pos j)) c value-is
         ∙ step-back P zs ch W losses (suc t) (omega arith) H hold space k s j hk hs hj c value-is e i he hi meets lowest-edge
         (yes-permitted (edgeAt P e .kind) i j permitted) least (λ i′ h a. lowest-level i′ h (permitted-yes (edgeAt P e .kind) i′ j a))
 
@@ -167,7 +168,7 @@ module _ (P : Plan) (zs : List ℤ) (ch : Checked P) (W : ℕ) (losses : (t : �
     pub walk-on : (n : ℕ) → walkBack P zs n (suc (suc t)) (node k s (P .lo +ℤ pos j))
         ≡ cond (joins (edgeAt P e)) (walkBack P zs n (suc t) earlier) (run (suc (suc t)) n s (P .lo +ℤ pos j) e ∷ walkBack P zs (suc t) (suc t) earlier)
     unfolding before fromCount
-    walk-on n = walk-step P zs n t (node k s (P .lo +ℤ pos j)) e i way-is
+    walk-on n = walk-step P zs n t (node k s (P .lo +ℤ pos j)) e i step-is
 
     pub earlier-count : before-count e < counts
     earlier-count = leads-count P zs ch W losses (suc t) (omega arith) H hold space e k s (meets .0)
@@ -192,6 +193,12 @@ module _ (P : Plan) (zs : List ℤ) (ch : Checked P) (losses : (t : ℕ) (m : �
   unfolding tableAt
   table-holding zero h = first-holding P zs (λ m on. omega (arith, losses 0 m on)) (ch .grid)
   table-holding (suc t) h = next-holding P zs ch lossMost losses (suc t) (omega arith) (tableAt P zs (suc t)) (table-holding t (omega arith)) (room (suc t) (omega arith))
+
+pub refused-by : (P : Plan) (zs : List ℤ) (n : ℕ) → searchNumber P (length zs) ≡ n → (n ≡ 0 → ⊥) → resultOf P zs whole ≡ refused n
+refused-by P zs = demand3 P zs .whole-early
+
+pub point-refused-by : (P : Plan) (zs : List ℤ) (s : ℕ) (m : ℤ) (n : ℕ) → pointNumber P (length zs) s m ≡ n → (n ≡ 0 → ⊥) → resultOf P zs (point s m) ≡ refused n
+point-refused-by P zs = demand3 P zs .point-early
 
 module _ (P : Plan) (zs : List ℤ) (accepts : searchNumber P (length zs) ≡ 0) (H : Table) (hold : Holding P zs (length zs) H) where
   pub none-by : noCost ≤ leastEndAt P H → resultOf P zs whole ≡ refused 16

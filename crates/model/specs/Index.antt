@@ -1,5 +1,8 @@
--- What one edge makes of a function of the level, by the level's index above lo, as code holds it. Assumes nothing.
-use mathlib.Core.Path.{_≡_, refl, sym, _∙_, ap, subst}
+-- What one edge makes of a function of the level, by the level's index above lo. Stay is the function itself, any the least value, up and down
+-- the running minimum moved by the gap, abs the lesser of both. What code has to show: its list has at each index the value `edgeMin`, or it
+-- looked at the permitted indices and has `edge-min-is` or `edge-min-none`. `permits-index` and `edge-min` make of it the least over the levels
+-- that the model permits. Assumes nothing.
+use mathlib.Core.Path.{_≡_, refl, sym, _∙_, ap}
 use mathlib.Core.Logic.{_⊎_, inl, inr}
 use mathlib.Core.Option.{Option, none, some, Option·some-injective}
 use mathlib.Core.Bool.{Bool, true, false, _&&_, cond}
@@ -8,18 +11,16 @@ use native.Mathlib.Omega.{arith}
 use native.Mathlib.Decide.{decLe, decLt}
 use lib.Dec.{leb, ltb, eqb}
 use borrow.Author.Tests.{ltb-true, leb-true, leb-false, eqb-true, lt-ltb, le-ltb, le-leb, eq-eqb}
-use lib.IntN.{ℤ, pos, negsuc, natAbs, _+ℤ_, _-ℤ_}
-use lib.Signed.{leZ, _≤ℤ_, leZ-yes}
+use lib.IntN.{ℤ, pos, natAbs, _+ℤ_, _-ℤ_}
+use lib.Signed.{leZ, leZ-yes}
 use Rattle.integers.specs.Rep as R
 use Rattle.integers.specs.Rep.{Rep, iz, nz, _⊕_, _⊖_, eqZ, leN, leZof, holds}
-use Rattle.plan.specs.declared.Plan.{Plan}
 use Rattle.plan.specs.declared.Kind.{Kind}
 use Rattle.plan.specs.declared.Kind.the-variants.{Stay, Any, Up, Down, Abs}
-use Rattle.model.specs.Cost.{Cost, _≼_}
-use Rattle.model.specs.Grid.{above, above-add, above-mono, and-yes}
-use Rattle.model.specs.Model.{permits, onGrid}
-use Rattle.model.specs.Opt.{width}
-use Rattle.model.specs.Edges.{MinOver}
+use Rattle.model.specs.Cost.{Cost}
+use Rattle.model.specs.Bools.{and-yes, same-test}
+use Rattle.model.specs.Grid.{leZ-true, abs-is, le-index}
+use Rattle.model.specs.Model.{above, permits}
 
 -- ---- what code holds
 
@@ -29,10 +30,6 @@ noCost = 2 ^ 60
 
 unfoldable pub held : ℕ → Option Cost
 held v = cond (ltb v noCost) (some v) none
-
--- a function of the index as one of the level
-unfoldable pub onLevels : Plan → (ℕ → ℕ) → ℤ → Option Cost
-onLevels P f m = cond (onGrid P m) (held (f (above (P .lo) m))) none
 
 -- from index i to the next index j
 unfoldable pub permitsAt : Kind → ℕ → ℕ → Bool
@@ -71,26 +68,6 @@ edgeMin L (Down g) f j = downMin L g f j
 edgeMin L (Abs g) f j = min (upMin g f j) (downMin L g f j)
 
 -- ---- levels and indices
-
-same-test : (a b : Bool) → (a ≡ true → b ≡ true) → (b ≡ true → a ≡ true) → a ≡ b
-same-test true b h k = sym (h refl)
-same-test false true h k = k refl
-same-test false false h k = refl
-
-leZ-true : (x y : ℤ) → x ≤ℤ y → leZ x y ≡ true
-leZ-true (pos a) (pos b) h = le-leb a b (omega (arith, leN (iz (pos a)) (iz (pos b)) h))
-leZ-true (pos a) (negsuc b) h = absurd (omega (arith, leN (iz (pos a)) (iz (negsuc b)) h))
-leZ-true (negsuc a) (pos b) h = refl
-leZ-true (negsuc a) (negsuc b) h = le-leb b a (omega (arith, leN (iz (negsuc a)) (iz (negsuc b)) h))
-
-le-index : (lo : ℤ) (i j : ℕ) → leZ (lo +ℤ pos i) (lo +ℤ pos j) ≡ leb i j
-le-index lo i j = same-test (leZ (lo +ℤ pos i) (lo +ℤ pos j)) (leb i j)
-    (λ h. le-leb i j (omega (arith, leN (iz lo ⊕ nz i) (iz lo ⊕ nz j) (leZ-yes (holds h)))))
-    (λ h. leZ-true _ _ (leZof (iz lo ⊕ nz i) (iz lo ⊕ nz j) (omega (arith, leb-true i j h))))
-
-abs-is : (z : ℤ) → ((natAbs z ≡ R.above z) × (R.below z ≡ 0)) ⊎ ((natAbs z ≡ R.below z) × (R.above z ≡ 0))
-abs-is (pos a) = inl (refl, refl)
-abs-is (negsuc a) = inr (refl, refl)
 
 abs-index : (lo : ℤ) (g i j : ℕ) → leb g (natAbs ((lo +ℤ pos j) -ℤ (lo +ℤ pos i))) ≡ cond (leb (i + g) j) true (leb (j + g) i)
 abs-index lo g i j = go (leb (i + g) j) refl (abs-is z) (x .is)
@@ -139,63 +116,6 @@ some-held v h = rw (lt-ltb v noCost h)
 pub none-held : (v : ℕ) → noCost ≤ v → held v ≡ none
 unfolding held
 none-held v h = rw (le-ltb v noCost h)
-
-module _ (P : Plan) where
-  pub above-index : (i : ℕ) → above (P .lo) (P .lo +ℤ pos i) ≡ i
-  above-index i =
-      let h : leZ (P .lo) (P .lo +ℤ pos i) ≡ true = leZ-true (P .lo) (P .lo +ℤ pos i) (leZof (iz (P .lo)) (iz (P .lo) ⊕ nz i) (omega arith)) in
-      let e = R.eqN (iz (P .lo) ⊕ nz (above (P .lo) (P .lo +ℤ pos i))) (iz (P .lo) ⊕ nz i) (above-add (P .lo) (P .lo +ℤ pos i) h) in
-      omega arith
-
-  pub index-grid : leZ (P .lo) (P .hi) ≡ true → (i : ℕ) → i < width P → onGrid P (P .lo +ℤ pos i) ≡ true
-  unfolding onGrid width
-  index-grid g i h =
-      let a : leZ (P .lo) (P .lo +ℤ pos i) ≡ true = leZ-true (P .lo) (P .lo +ℤ pos i) (leZof (iz (P .lo)) (iz (P .lo) ⊕ nz i) (omega arith)) in
-      let b : leZ (P .lo +ℤ pos i) (P .hi) ≡ true = subst (λ (x : ℤ). leZ (P .lo +ℤ pos i) x ≡ true) (above-add (P .lo) (P .hi) g) (le-index (P .lo) i (above (P .lo) (P .hi)) ∙ le-leb i (above (P .lo) (P .hi)) (omega arith)) in
-      simp (a, b)
-
-  pub grid-index : (m : ℤ) → onGrid P m ≡ true → (above (P .lo) m < width P) × (P .lo +ℤ pos (above (P .lo) m) ≡ m)
-  unfolding onGrid width
-  grid-index m h =
-      let (a, b) = and-yes (leZ (P .lo) m) (leZ m (P .hi)) h in
-      (omega (arith, above-mono (P .lo) m (P .hi) a b), above-add (P .lo) m a)
-
-  pub at-index : (f : ℕ → ℕ) → leZ (P .lo) (P .hi) ≡ true → (i : ℕ) → i < width P → onLevels P f (P .lo +ℤ pos i) ≡ held (f i)
-  unfolding onLevels
-  at-index f g i h = rw (index-grid g i h, above-index i)
-
-  pub at-level : (f : ℕ → ℕ) (m : ℤ) → onGrid P m ≡ true → onLevels P f m ≡ held (f (above (P .lo) m))
-  unfolding onLevels
-  at-level f m h = rw h
-
-  on-levels : (f : ℕ → ℕ) (m : ℤ) (d : Cost) → onLevels P f m ≡ some d → (onGrid P m ≡ true) × (f (above (P .lo) m) < noCost) × (f (above (P .lo) m) ≡ d)
-  unfolding onLevels
-  on-levels f m d p = go (onGrid P m) refl p
-    where
-      go : (b : Bool) → onGrid P m ≡ b → cond b (held (f (above (P .lo) m))) none ≡ some d → (onGrid P m ≡ true) × (f (above (P .lo) m) < noCost) × (f (above (P .lo) m) ≡ d)
-      go true e q = let (h, k) = held-some (f (above (P .lo) m)) d q in (e, h, k)
-      go false e q = let z : _≡_ {A = ℕ} 0 1 = cc in absurd (omega arith)
-
-  -- what is shown of indices holds of levels
-  pub min-levels : leZ (P .lo) (P .hi) ≡ true → (k : Kind) (f r : ℕ → ℕ) → MinAt (width P) k f r → MinOver P k (onLevels P f) (onLevels P r)
-  min-levels g k f r x = record { met = met; least = low }
-    where
-      met : (m′ : ℤ) (d : Cost) → onGrid P m′ ≡ true → onLevels P r m′ ≡ some d → (m : ℤ) × (permits k m m′ ≡ true) × (onLevels P f m ≡ some d)
-      met m′ d on p =
-          let (h, e) = grid-index m′ on in
-          let (on′, l, v) = on-levels r m′ d p in
-          let (i, hi, a, w) = x .met (above (P .lo) m′) h l in
-          let q : permits k (P .lo +ℤ pos i) m′ ≡ true = subst (λ (y : ℤ). permits k (P .lo +ℤ pos i) y ≡ true) e (permits-index k (P .lo) i (above (P .lo) m′) ∙ a) in
-          (P .lo +ℤ pos i, q, at-index f g i hi ∙ some-held (f i) (omega arith) ∙ ap some (w ∙ v))
-
-      low : (m m′ : ℤ) (d : Cost) → onGrid P m′ ≡ true → permits k m m′ ≡ true → onLevels P f m ≡ some d → (c : Cost) × (onLevels P r m′ ≡ some c) × (c ≼ d)
-      low m m′ d on a p =
-          let (h, e) = grid-index m′ on in
-          let (on′, l, v) = on-levels f m d p in
-          let (h′, e′) = grid-index m on′ in
-          let b : permits k (P .lo +ℤ pos (above (P .lo) m)) (P .lo +ℤ pos (above (P .lo) m′)) ≡ true = rw (e, e′) a in
-          let q = x .least (above (P .lo) m) (above (P .lo) m′) h′ h (sym (permits-index k (P .lo) (above (P .lo) m) (above (P .lo) m′)) ∙ b) l in
-          (r (above (P .lo) m′), at-level r m′ on ∙ some-held (r (above (P .lo) m′)) (omega arith), record { le = omega arith })
 
 -- ---- prefix and suffix minima
 

@@ -7,7 +7,8 @@ use lib.Signed.{leZ}
 use Rattle.plan.specs.declared.Kind.{Kind}
 use Rattle.plan.specs.declared.Kind.the-variants.{Stay, Any, Up, Down, Abs}
 
--- from level m to the next level m'
+-- "From level m to the next level m′: 0 stay, m′ = m; 1 any, no condition; 2 up, m′ ≥ m + gap; 3 down, m′ ≤ m − gap; 4 abs, the distance of
+-- m and m′ at least gap."
 unfoldable pub permits : Kind → ℤ → ℤ → Bool
 permits Stay m m′ = leZ m m′ && leZ m′ m
 permits Any m m′ = true

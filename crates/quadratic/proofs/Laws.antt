@@ -7,7 +7,7 @@ use native.Mathlib.Omega.{arith}
 use lib.IntN.{ℤ, pos, _+ℤ_, _-ℤ_, _*ℤ_}
 use lib.Signed.{_≤ℤ_, _<ℤ_}
 use Rattle.integers.specs.Rep.{iz, nz, _⊕_, _⊖_, _⊗_, leN, ltN}
-use Rattle.integers.specs.Level.{Placed}
+use Rattle.quadratic.specs.Level.{Placed}
 use Rattle.quadratic.specs.declared.Quad.{Quad}
 use Rattle.quadratic.specs.Quad.{Small, Fine, Lowest, Cut, Turns, Stays, Halved, up, down, AtMost, Less, Under, Over}
 

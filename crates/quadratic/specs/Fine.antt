@@ -113,31 +113,38 @@ square u v = ⊎-elim
     upper : (v i : ℕ) → far (v + i) v * far (v + i) v + 2 * ((v + i) * v) ≡ (v + i) * (v + i) + v * v
     upper v i = let d : far (v + i) v ≡ i = omega arith in rw d (omega arith)
 
-pub fine-pushed : {A B v : ℕ} {q : Quad} (u : ℕ) → far u v ≤ 65535 → Bounds A B v → Fine A B q v → Fine (A + 1) (B + 4294836225) (pushed u q) v
-fine-pushed {A} {B} {v} {q} u h b f = ⊎-elim
-    (λ e. subst (λ (p : Quad). Fine (A + 1) (B + 4294836225) (pushed u p) v) (sym e) (fine-none (A + 1) (B + 4294836225) v))
+-- the greatest square of a distance of 65535
+abbrev pub square-most : ℕ
+square-most = 4294836225
+
+pub fine-pushed : {A B v : ℕ} {q : Quad} (w u : ℕ) → far u v ≤ 65535 → Bounds A B v → Fine A B q v → Fine (A + w) (B + w * square-most) (pushed w u q) v
+fine-pushed {A} {B} {v} {q} w u h b f = ⊎-elim
+    (λ e. subst (λ (p : Quad). Fine (A + w) (B + w * square-most) (pushed w u p) v) (sym e) (fine-none (A + w) (B + w * square-most) v))
     (λ e. rw (e .0) (record {
       count = omega (arith, f .count);
-      left = omega (arith, f .left);
-      right = omega (arith, f .right);
-      whole = omega (arith, f .whole, square u v);
-      size = inr (omega (arith, e .1, square u v, far²));
+      left = omega (arith, f .left, mul-le-mul-left w (near h .0));
+      right = omega (arith, f .right, mul-le-mul-left w (near h .1));
+      whole = omega (arith, f .whole, ap (λ (x : ℕ). w * x) (square u v));
+      size = inr (omega (arith, e .1, ap (λ (x : ℕ). w * x) (square u v), mul-le-mul-left w far²));
     }))
     (kinds b f)
   where
+    near : far u v ≤ 65535 → (v ≤ u + 65535) × (u ≤ v + 65535)
+    near g = (omega arith, omega arith)
+
     far² : far u v * far u v ≤ 65535 * 65535
     far² = mul-le-mul h h
 
-pub value-pushed : {A B v : ℕ} {q : Quad} (u : ℕ) → Bounds A B v → Fine A B q v → value (pushed u q) v ≡ plus (far u v * far u v) (value q v)
-value-pushed {A} {B} {v} {q} u b f = ⊎-elim
-    (λ e. subst (λ (p : Quad). value (pushed u p) v ≡ plus (far u v * far u v) (value p v)) (sym e) flat-one)
-    (λ e. rw (e .0, not-none b f (e .1)) (omega (arith, f .whole, square u v)))
+pub value-pushed : {A B v : ℕ} {q : Quad} (w u : ℕ) → Bounds A B v → Fine A B q v → value (pushed w u q) v ≡ plus (w * (far u v * far u v)) (value q v)
+value-pushed {A} {B} {v} {q} w u b f = ⊎-elim
+    (λ e. subst (λ (p : Quad). value (pushed w u p) v ≡ plus (w * (far u v * far u v)) (value p v)) (sym e) flat-one)
+    (λ e. rw (e .0, not-none b f (e .1)) (omega (arith, f .whole, ap (λ (x : ℕ). w * x) (square u v))))
     (kinds b f)
   where
     at : value (flat none) v ≡ none
     at = omega arith
 
-    flat-one : value (pushed u (flat none)) v ≡ plus (far u v * far u v) (value (flat none) v)
+    flat-one : value (pushed w u (flat none)) v ≡ plus (w * (far u v * far u v)) (value (flat none) v)
     flat-one = rw at
 
 -- ---- levels moved

@@ -108,8 +108,8 @@ pick false a b = b
 abbrev pub raised : ℕ → Quad → Quad
 raised k q = pick (eqb (q .c) none) q (record { a = q .a; z = q .z; c = q .c + k })
 
-abbrev pub pushed : ℕ → Quad → Quad
-pushed u q = pick (eqb (q .c) none) q (record { a = q .a + 1; z = q .z + u; c = q .c + u * u })
+abbrev pub pushed : ℕ → ℕ → Quad → Quad
+pushed w u q = pick (eqb (q .c) none) q (record { a = q .a + w; z = q .z + w * u; c = q .c + w * (u * u) })
 
 abbrev pub moved : ℕ → Quad → Quad
 moved g q = record { a = q .a; z = q .z + q .a * g; c = q .c + (2 * (q .z * g) + q .a * (g * g)) }

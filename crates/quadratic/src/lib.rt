@@ -3,6 +3,8 @@ ghost use mathlib.Core.Path.{_≡_};
 ghost use mathlib.Core.Bool.{true, false};
 ghost use Prim.Native.Nat.{ℕ, _+_, _*_, _-_, _≤_, _<_};
 ghost use lib.Dec.{leb};
+ghost use lib.IntN.{pos, _-ℤ_};
+ghost use Rattle.quadratic.specs.Level.{Placed};
 ghost use Rattle.quadratic.specs.Quad.{Small, Fine, Lowest, Cut, Turns, Stays, Halved, raised, pushed, moved, mirrored, up, down, Under, Over, value};
 
 pub const NONE: u64 = 1152921504606846976;
@@ -44,19 +46,43 @@ pub fn under(w: Quad, l: Quad, v: u64) -> bool
     rise(w.a, w.c, v) + fall(l.z, v) <= rise(l.a, l.c, v) + fall(w.z, v)
 }
 
+// p less q, signed.
+fn less(p: u64, q: u64) -> i64
+    requires { ⌜ (p < 4611686018427387904) × (q < 4611686018427387904) ⌝ }
+    ensures { λ r. ⌜ r ≡ pos p -ℤ pos q ⌝ }
+{
+    (p as i64) - (q as i64)
+}
+
+// The place of the signed level m in [x, y], whose levels are counted from -163840.
+fn place(m: i64, x: u64, y: u64) -> u64
+    requires { ⌜ (x ≤ y) × (y < 262144) ⌝ }
+    ensures { λ r. ⌜ Placed m x y r ⌝ }
+{
+    let low = less(x, 163840);
+    let high = less(y, 163840);
+    if m < low {
+        x
+    } else if high < m {
+        y
+    } else {
+        (m + 163840) as u64
+    }
+}
+
 // (p - q) / d on signed levels, rounded down: its place within [x, y].
 pub fn cut(p: u64, q: u64, d: u64, x: u64, y: u64) -> u64
     requires { ⌜ ((p < 2305843009213693952) × (q < 2305843009213693952)) × ((0 < d) × (d ≤ 2199023255552)) ⌝ }
     requires { ⌜ (x ≤ y) × (y < 262144) ⌝ }
     ensures { λ r. ⌜ Cut p q d x y r ⌝ }
 {
-    let n = integers::less(p, q + d * 163840);
-    let m = integers::floor_div(n, integers::less(d, 0));
-    integers::place(m, x, y)
+    let n = less(p, q + d * 163840);
+    let m = integers::floor_div(n, less(d, 0));
+    place(m, x, y)
 }
 
 // Where the slope turns, clamped.
-pub fn turn(e: u64, f: u64, g: u64, x: u64, y: u64) -> u64
+pub fn turning_point(e: u64, f: u64, g: u64, x: u64, y: u64) -> u64
     requires { ⌜ ((0 < e) × (e ≤ 1048576)) × ((f ≤ 549755813888) × (g ≤ 549755813888)) ⌝ }
     requires { ⌜ (x ≤ y) × (y < 262144) ⌝ }
     ensures { λ r. ⌜ Turns e f g x y r ⌝ }
@@ -75,11 +101,11 @@ pub fn lowest_min(q: Quad, x: u64, y: u64) -> u64
         }
         return y;
     }
-    turn(q.a, q.z, 0, x, y)
+    turning_point(q.a, q.z, 0, x, y)
 }
 
 // The last level under, where lo is under and hi is over.
-pub fn halve(w: Quad, l: Quad, lo: u64, hi: u64) -> u64
+pub fn bisect(w: Quad, l: Quad, lo: u64, hi: u64) -> u64
     requires { ⌜ (Small w × Small l) × ((lo < hi) × (hi < 262144)) ⌝ }
     requires { ⌜ Under w l lo × Over w l hi ⌝ }
     ensures { λ r. ⌜ Halved w l lo hi r ⌝ }
@@ -110,16 +136,16 @@ pub fn crossing(w: Quad, l: Quad, x: u64, y: u64) -> u64
         return cut(l.c, w.c, 2 * (l.z - w.z), x, y);
     }
     if w.a < l.a {
-        let k = turn(l.a - w.a, l.z, w.z, x, y);
+        let k = turning_point(l.a - w.a, l.z, w.z, x, y);
         if under(w, l, k) {
             return y;
         }
-        return halve(w, l, x, k);
+        return bisect(w, l, x, k);
     }
     if under(w, l, y) {
         return y;
     }
-    halve(w, l, x, y)
+    bisect(w, l, x, y)
 }
 
 // q with k more at every level; none stays none.
@@ -138,24 +164,24 @@ pub fn raise(q: Quad, k: u64) -> Quad
     }
 }
 
-// q with the square (u - v)² more: one reading more; none stays none.
-pub fn push(q: Quad, u: u64) -> Quad
-    requires { ⌜ Small q × (u < 262144) ⌝ }
-    ensures { λ r. ⌜ r ≡ pushed u q ⌝ }
+// q with w times the square (u - v)² more: one reading of weight w more; none stays none.
+pub fn add_square(q: Quad, u: u64, w: u64) -> Quad
+    requires { ⌜ Small q × ((u < 262144) × (w < 256)) ⌝ }
+    ensures { λ r. ⌜ r ≡ pushed w u q ⌝ }
 {
     if q.c == NONE {
         q
     } else {
         Quad {
-            a: q.a + 1,
-            z: q.z + u,
-            c: q.c + u * u,
+            a: q.a + w,
+            z: q.z + w * u,
+            c: q.c + w * (u * u),
         }
     }
 }
 
 // q with every level moved up by g.
-pub fn shifted(q: Quad, g: u64) -> Quad
+pub fn shift(q: Quad, g: u64) -> Quad
     requires { ⌜ Small q × (g < 1024) ⌝ }
     ensures { λ r. ⌜ r ≡ moved g q ⌝ }
 {
@@ -167,7 +193,7 @@ pub fn shifted(q: Quad, g: u64) -> Quad
 }
 
 // q with each level v at the place of s - v.
-pub fn turned(q: Quad, s: u64) -> Quad
+pub fn mirror(q: Quad, s: u64) -> Quad
     requires { ⌜ Small q × (s < 524288) ⌝ }
     requires { ⌜ (q .z ≤ q .a * s) × (2 * (q .z * s) ≤ q .a * (s * s) + q .c) ⌝ }
     ensures { λ r. ⌜ r ≡ mirrored s q ⌝ }

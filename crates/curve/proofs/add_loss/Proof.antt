@@ -11,10 +11,10 @@ use Rattle.curve.proofs.add_loss.Statement.{statement}
 use Rattle.curve.proofs.add_loss.Tie as tie
 
 abbrev Inv-loop : tie.InvT-loop
-Inv-loop ws₀ f u dst levels i₀ n₀ x₀ ws i n x = ((x ≤ levels) × At ws₀ f levels i x) × Emits (λ (j : ℕ). pushed u (piece ws₀ f levels j)) ws₀ ws dst 0 0 x n
+Inv-loop ws₀ f u w dst levels i₀ n₀ x₀ ws i n x = ((x ≤ levels) × At ws₀ f levels i x) × Emits (λ (j : ℕ). pushed w u (piece ws₀ f levels j)) ws₀ ws dst 0 0 x n
 
 abbrev μ-loop : tie.MeasureT-loop
-μ-loop ws₀ f u dst levels i₀ n₀ x₀ ws i n x = levels - x
+μ-loop ws₀ f u w dst levels i₀ n₀ x₀ ws i n x = levels - x
 
 loop-holds : tie.Need-loop-holds Inv-loop μ-loop
 loop-holds c = ((omega arith, at-start (c .before .pre .0 .0 .formed)), emits-none _ _ _ _ _)
@@ -37,8 +37,8 @@ slice-read-e c = omega (arith, sf (c .before) .room)
 load-requires : tie.Need-load-requires Inv-loop μ-loop
 load-requires c κs = sf (c .before .before) .room
 
-push-requires : tie.Need-push-requires Inv-loop μ-loop
-push-requires c κs = let t = c .before .before .before in (small (rw (c .load .ensures, ← (sf t .is (c .before .before .before .before .loop .x) (omega arith) (sf t .from))) (c .before .before .before .before .before .before .pre .1 .1 (c .before .before .before .before .loop .x) (t .loop-test .taken))), c .before .before .before .before .before .before .pre .1 .0 .0)
+add-square-requires : tie.Need-add-square-requires Inv-loop μ-loop
+add-square-requires c κs = let t = c .before .before .before in (small (rw (c .load .ensures, ← (sf t .is (c .before .before .before .before .loop .x) (omega arith) (sf t .from))) (c .before .before .before .before .before .before .pre .1 .1 (c .before .before .before .before .loop .x) (t .loop-test .taken))), c .before .before .before .before .before .before .pre .1 .0 .0)
 
 append-requires : tie.Need-append-requires Inv-loop μ-loop
 append-requires c κs = let t = c .before .before .before .before .before in let i = c .before .before .before .before .before .before .loop .inv .1 in omega (arith, i .count (omega arith), sf t .from, sf t .to, i .kept .size, c .before .before .before .before .before .before .before .before .pre .0)
@@ -53,7 +53,7 @@ loop-less : tie.Need-loop-less Inv-loop μ-loop
 loop-less c = omega (arith, sf (c .before .before .before .before .before .before .before .before) .from, c .before .before .before .before .before .before .before .before .loop-test)
 
 loop-again : tie.Need-loop-again Inv-loop μ-loop
-loop-again c = let t = c .before .before .before .before .before .before .before .before in ((omega (arith, sf t .to), sf t .step _ _ (sf t .from) (omega arith) (inl (refl, refl))), emits-append (omega arith) (omega arith) (sf t .from) (c .before .before .before .before .before .before .before .before .before .loop .inv .1) (c .before .before .append .ensures) (λ j p q. c .before .before .before .before .push .ensures ∙ ap (pushed (c .before .before .before .before .before .before .before .before .before .before .before .args .u)) (c .before .before .before .before .before .load .ensures ∙ sym (sf t .is j p q))))
+loop-again c = let t = c .before .before .before .before .before .before .before .before in ((omega (arith, sf t .to), sf t .step _ _ (sf t .from) (omega arith) (inl (refl, refl))), emits-append (omega arith) (omega arith) (sf t .from) (c .before .before .before .before .before .before .before .before .before .loop .inv .1) (c .before .before .append .ensures) (λ j p q. c .before .before .before .before .add-square .ensures ∙ ap (pushed (c .before .before .before .before .before .before .before .before .before .before .before .args .w) (c .before .before .before .before .before .before .before .before .before .before .before .args .u)) (c .before .before .before .before .before .load .ensures ∙ sym (sf t .is j p q))))
 
 same-length : tie.Need-same-length Inv-loop μ-loop
 same-length c = c .before .loop .inv .1 .kept .size
@@ -73,7 +73,7 @@ add-loss-spec =
     mul-e
     slice-read-e
     load-requires
-    push-requires
+    add-square-requires
     append-requires
     add-i
     add-x

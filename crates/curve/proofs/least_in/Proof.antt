@@ -9,7 +9,7 @@ use Rattle.quadratic.specs.declared.Quad.{Quad}
 use Rattle.curve.specs.Lows.{costs, top}
 use Rattle.curve.specs.Pieces.{piece, endOf}
 use Rattle.curve.proofs.Laws.{small, At, Here, here, at-start, at-step}
-use Rattle.curve.proofs.Prefix.{Till, till-none, till-step, till-done}
+use Rattle.curve.proofs.Prefix.{Till, till-none, till-step, till-in}
 use Rattle.curve.proofs.least_in.Statement.{statement}
 use Rattle.curve.proofs.least_in.Tie as tie
 
@@ -89,7 +89,7 @@ loop-again c = let t = c .before .before .before .before .before in let s = c .b
 )
 
 returns : tie.Need-returns Inv-loop μ-loop
-returns c = let s = c .before .before .before in till-done _ _ _ _ _ (c .before .loop .inv .1 .1) (s .pre .1 .0 .0) (omega arith) (under-top s (s .args .from) (omega (arith, s .pre .1 .0)))
+returns c = let s = c .before .before .before in till-in _ _ _ _ _ (c .before .loop .inv .1 .1) (omega arith) (λ h. under-top s (s .args .from) (omega (arith, s .pre .1 .0)))
 
 pub least-in-spec : {M : Type 1} → statement M
 least-in-spec =

@@ -43,17 +43,17 @@ add-load c = omega (arith, sf (c .before .before .before) .room, c .before .befo
 load-requires : tie.Need-load-requires Inv-loop μ-loop
 load-requires c κs = sf (c .before .before .before) .room
 
-mul-turned : tie.Need-mul-turned Inv-loop μ-loop
-mul-turned c = omega (arith, c .before .before .before .before .before .before .before .before .before .pre .1 .0)
+mul-mirror : tie.Need-mul-mirror Inv-loop μ-loop
+mul-mirror c = omega (arith, c .before .before .before .before .before .before .before .before .before .pre .1 .0)
 
-sub-turned : tie.Need-sub-turned Inv-loop μ-loop
-sub-turned c = omega (arith, ss (c .before .before) .1)
+sub-mirror : tie.Need-sub-mirror Inv-loop μ-loop
+sub-mirror c = omega (arith, ss (c .before .before) .1)
 
-add-turned : tie.Need-add-turned Inv-loop μ-loop
-add-turned c = omega (arith, c .before .before .before .before .before .before .before .before .before .pre .1 .0)
+add-mirror : tie.Need-add-mirror Inv-loop μ-loop
+add-mirror c = omega (arith, c .before .before .before .before .before .before .before .before .before .pre .1 .0)
 
-turned-requires : tie.Need-turned-requires Inv-loop μ-loop
-turned-requires c κs = let t = c .before .before .before .before in let s = c .before .before .before .before .before .before .before .before .before in let x = c .before .before .before .before .before .loop .x in
+mirror-requires : tie.Need-mirror-requires Inv-loop μ-loop
+mirror-requires c κs = let t = c .before .before .before .before in let s = c .before .before .before .before .before .before .before .before .before in let x = c .before .before .before .before .before .loop .x in
     let q : Turnable (2 * s .args .base + (s .args .levels - 1)) (c .load .result) = subst (Turnable (2 * s .args .base + (s .args .levels - 1))) (sf t .is (x - 1) (omega (arith, sf t .low)) (omega (arith, t .loop-test)) ∙ sym (c .load .ensures)) (s .pre .1 .1 (x - 1) (omega (arith, ss (c .before .before) .1))) in
     ((small (q .sized), omega (arith, s .pre .1 .0)), (q .sum, q .rest))
 
@@ -74,7 +74,7 @@ loop-again c = let t = c .before .before .before .before .before .before .before
     let e : s .args .levels - 1 - z + 1 ≡ s .args .levels - z = omega (arith, y .1) in (
       (omega (arith, y .1), rw (y .0) (sf t .less)),
       rw e at (emits-append (omega arith) (omega arith) (omega (arith, y .1)) (c .before .before .before .before .before .before .before .before .before .before .loop .inv .1) (c .before .before .append .ensures)
-          (λ j p q. c .before .before .before .before .turned .ensures ∙ ap (mirrored (2 * s .args .base + (s .args .levels - 1))) (c .before .before .before .before .before .load .ensures ∙ sym (sf t .is (s .args .levels - 1 - j) (omega (arith, y)) (omega (arith, y .1)))))),
+          (λ j p q. c .before .before .before .before .mirror .ensures ∙ ap (mirrored (2 * s .args .base + (s .args .levels - 1))) (c .before .before .before .before .before .load .ensures ∙ sym (sf t .is (s .args .levels - 1 - j) (omega (arith, y)) (omega (arith, y .1)))))),
     )
 
 same-length : tie.Need-same-length Inv-loop μ-loop
@@ -96,10 +96,10 @@ mirror-spec =
     mul-load
     add-load
     load-requires
-    mul-turned
-    sub-turned
-    add-turned
-    turned-requires
+    mul-mirror
+    sub-mirror
+    add-mirror
+    mirror-requires
     sub-append
     sub-append-2
     append-requires

@@ -16,24 +16,24 @@ Inv-loop ws₀ f gap dst levels n₀ i₀ x₀ ws n i x = ((x + gap ≤ levels) 
 abbrev μ-loop : tie.MeasureT-loop
 μ-loop ws₀ f gap dst levels n₀ i₀ x₀ ws n i x = levels - x
 
-flat-to-requires : tie.Need-flat-to-requires Inv-loop μ-loop
-flat-to-requires c κs = omega arith
+constant-to-requires : tie.Need-constant-to-requires Inv-loop μ-loop
+constant-to-requires c κs = omega arith
 
 same-length : tie.Need-same-length Inv-loop μ-loop
 same-length c = omega arith
 
 returns : tie.Need-returns Inv-loop μ-loop
-returns c = made (emits-as (λ j u v. shift-none (c .before .before .before .before .before .before .args .gap) j (piece (c .before .before .before .before .before .before .args .ws .now) (c .before .before .before .before .before .before .args .f) (c .before .before .before .before .before .before .args .levels)) (omega arith)) (c .before .before .flat-to .ensures))
+returns c = made (emits-as (λ j u v. shift-none (c .before .before .before .before .before .before .args .gap) j (piece (c .before .before .before .before .before .before .args .ws .now) (c .before .before .before .before .before .before .args .f) (c .before .before .before .before .before .before .args .levels)) (omega arith)) (c .before .before .constant-to .ensures))
 
-flat-to-requires-2 : tie.Need-flat-to-requires-2 Inv-loop μ-loop
-flat-to-requires-2 c κs = omega arith
+constant-to-requires-2 : tie.Need-constant-to-requires-2 Inv-loop μ-loop
+constant-to-requires-2 c κs = omega arith
 
 -- the list that is read, after none was written
-lent : (c : tie.After-flat-to2 Inv-loop μ-loop) → Lent (c .flat-to2 .last .0) (c .before .before .before .before .args .f) (c .before .before .before .before .args .dst) (4 * c .before .before .before .before .args .levels) (c .before .before .before .before .args .levels)
-lent c = lent-kept (c .flat-to2 .ensures .kept) (omega (arith, c .flat-to2 .ensures .count (omega arith))) (c .before .before .before .before .pre .0 .0)
+lent : (c : tie.After-constant-to2 Inv-loop μ-loop) → Lent (c .constant-to2 .last .0) (c .before .before .before .before .args .f) (c .before .before .before .before .args .dst) (4 * c .before .before .before .before .args .levels) (c .before .before .before .before .args .levels)
+lent c = lent-kept (c .constant-to2 .ensures .kept) (omega (arith, c .constant-to2 .ensures .count (omega arith))) (c .before .before .before .before .pre .0 .0)
 
-sf : (c : tie.In-loop Inv-loop μ-loop) → Seen (c .before .before .before .before .flat-to2 .last .0) (c .before .loop .ws) (c .before .before .before .before .before .before .before .before .args .f) (c .before .before .before .before .before .before .before .before .args .levels) (c .before .loop .i) (c .before .loop .x)
-sf c = seen (c .before .loop .inv .1 .kept) (omega (arith, c .before .loop .inv .1 .count (c .before .before .before .before .flat-to2 .ensures .count (omega arith)))) (lent (c .before .before .before .before)) (c .before .loop .inv .0 .1) (omega arith)
+sf : (c : tie.In-loop Inv-loop μ-loop) → Seen (c .before .before .before .before .constant-to2 .last .0) (c .before .loop .ws) (c .before .before .before .before .before .before .before .before .args .f) (c .before .before .before .before .before .before .before .before .args .levels) (c .before .loop .i) (c .before .loop .x)
+sf c = seen (c .before .loop .inv .1 .kept) (omega (arith, c .before .loop .inv .1 .count (c .before .before .before .before .constant-to2 .ensures .count (omega arith)))) (lent (c .before .before .before .before)) (c .before .loop .inv .0 .1) (omega arith)
 
 loop-holds : tie.Need-loop-holds Inv-loop μ-loop
 loop-holds c = let e : 0 + c .before .before .before .before .before .before .args .gap ≡ c .before .before .before .before .before .before .args .gap = omega arith in ((omega arith, at-start (lent (c .before .before) .formed)), rw e (emits-none _ _ _ _ _))
@@ -56,8 +56,8 @@ slice-read-e c = omega (arith, sf (c .before) .room)
 load-requires : tie.Need-load-requires Inv-loop μ-loop
 load-requires c κs = sf (c .before .before) .room
 
-shifted-requires : tie.Need-shifted-requires Inv-loop μ-loop
-shifted-requires c κs = let t = c .before .before .before in let m = c .before .before .before .before .before .before .before in (small (subst Sized (sym (lent-piece (m .flat-to2 .ensures .kept) (omega (arith, m .flat-to2 .ensures .count (omega arith))) (c .before .before .before .before .before .before .before .before .before .before .before .pre .0 .0) (c .before .before .before .before .loop .x) (omega arith)) ∙ sf t .is (c .before .before .before .before .loop .x) (omega arith) (sf t .from) ∙ sym (c .load .ensures)) (c .before .before .before .before .before .before .before .before .before .before .before .pre .1 .1 (c .before .before .before .before .loop .x) (omega arith))), c .before .before .before .before .before .before .before .before .before .before .before .pre .1 .0 .0)
+shift-requires : tie.Need-shift-requires Inv-loop μ-loop
+shift-requires c κs = let t = c .before .before .before in let m = c .before .before .before .before .before .before .before in (small (subst Sized (sym (lent-piece (m .constant-to2 .ensures .kept) (omega (arith, m .constant-to2 .ensures .count (omega arith))) (c .before .before .before .before .before .before .before .before .before .before .before .pre .0 .0) (c .before .before .before .before .loop .x) (omega arith)) ∙ sf t .is (c .before .before .before .before .loop .x) (omega arith) (sf t .from) ∙ sym (c .load .ensures)) (c .before .before .before .before .before .before .before .before .before .before .before .pre .1 .1 (c .before .before .before .before .loop .x) (omega arith))), c .before .before .before .before .before .before .before .before .before .before .before .pre .1 .0 .0)
 
 sub-lesser : tie.Need-sub-lesser Inv-loop μ-loop
 sub-lesser c = omega arith
@@ -78,7 +78,7 @@ add-append : tie.Need-add-append Inv-loop μ-loop
 add-append c = omega (arith, ys (c .before) .1)
 
 append-requires : tie.Need-append-requires Inv-loop μ-loop
-append-requires c κs = let y = ys (c .before) in let i = c .before .before .before .before .before .before .before .loop .inv .1 in omega (arith, y, i .count (c .before .before .before .before .before .before .before .before .before .before .flat-to2 .ensures .count (omega arith)), i .kept .size, c .before .before .before .before .before .before .before .before .before .before .flat-to2 .ensures .kept .size, c .before .before .before .before .before .before .before .before .before .before .before .before .before .before .pre .0)
+append-requires c κs = let y = ys (c .before) in let i = c .before .before .before .before .before .before .before .loop .inv .1 in omega (arith, y, i .count (c .before .before .before .before .before .before .before .before .before .before .constant-to2 .ensures .count (omega arith)), i .kept .size, c .before .before .before .before .before .before .before .before .before .before .constant-to2 .ensures .kept .size, c .before .before .before .before .before .before .before .before .before .before .before .before .before .before .pre .0)
 
 next-requires : tie.Need-next-requires Inv-loop μ-loop
 next-requires c κs = omega (arith, sf (c .before .before .before .before .before .before .before .before .before) .index, c .before .before .before .before .before .before .before .before .before .before .before .before .before .before .before .before .before .pre .1 .0)
@@ -92,18 +92,18 @@ loop-less c = omega (arith, ys (c .before .before .before .before .before), c .b
 loop-again : tie.Need-loop-again Inv-loop μ-loop
 loop-again c = let t = c .before .before .before .before .before .before .before .before .before .before in let y = ys (c .before .before .before .before .before) in let l = c .before .before .before .before .before .lesser in let e : l .result + c .before .before .before .before .before .before .before .before .before .before .before .before .before .before .before .before .before .before .args .gap + 1 ≡ l .result + 1 + c .before .before .before .before .before .before .before .before .before .before .before .before .before .before .before .before .before .before .args .gap = omega arith in (
   (omega (arith, y .1), sf t .step (l .result) (c .next .result) (y .0) (l .ensures .0 .0) (c .next .ensures)),
-  rw e at (emits-append (c .before .before .before .before .before .before .before .before .before .before .before .before .before .before .flat-to2 .ensures .count (omega arith)) (omega arith) (omega (arith, y .0)) (c .before .before .before .before .before .before .before .before .before .before .before .loop .inv .1) (c .before .before .before .append .ensures)
-      (λ j p q. c .before .before .before .before .before .before .shifted .ensures ∙ ap (moved (c .before .before .before .before .before .before .before .before .before .before .before .before .before .before .before .before .before .before .args .gap)) (c .before .before .before .before .before .before .before .load .ensures) ∙ shift-moved (c .before .before .before .before .before .before .before .before .before .before .before .before .before .before .before .before .before .before .args .gap) j (piece (c .before .before .before .before .before .before .before .before .before .before .before .before .before .before .flat-to2 .last .0) (c .before .before .before .before .before .before .before .before .before .before .before .before .before .before .before .before .before .before .args .f) (c .before .before .before .before .before .before .before .before .before .before .before .before .before .before .before .before .before .before .args .levels)) _ (omega arith) (sf t .is (j - c .before .before .before .before .before .before .before .before .before .before .before .before .before .before .before .before .before .before .args .gap) (omega arith) (omega (arith, l .ensures .0 .0))))),
+  rw e at (emits-append (c .before .before .before .before .before .before .before .before .before .before .before .before .before .before .constant-to2 .ensures .count (omega arith)) (omega arith) (omega (arith, y .0)) (c .before .before .before .before .before .before .before .before .before .before .before .loop .inv .1) (c .before .before .before .append .ensures)
+      (λ j p q. c .before .before .before .before .before .before .shift .ensures ∙ ap (moved (c .before .before .before .before .before .before .before .before .before .before .before .before .before .before .before .before .before .before .args .gap)) (c .before .before .before .before .before .before .before .load .ensures) ∙ shift-moved (c .before .before .before .before .before .before .before .before .before .before .before .before .before .before .before .before .before .before .args .gap) j (piece (c .before .before .before .before .before .before .before .before .before .before .before .before .before .before .constant-to2 .last .0) (c .before .before .before .before .before .before .before .before .before .before .before .before .before .before .before .before .before .before .args .f) (c .before .before .before .before .before .before .before .before .before .before .before .before .before .before .before .before .before .before .args .levels)) _ (omega arith) (sf t .is (j - c .before .before .before .before .before .before .before .before .before .before .before .before .before .before .before .before .before .before .args .gap) (omega arith) (omega (arith, l .ensures .0 .0))))),
 )
 
 same-length-2 : tie.Need-same-length-2 Inv-loop μ-loop
-same-length-2 c = c .before .loop .inv .1 .kept .size ∙ c .before .before .before .before .flat-to2 .ensures .kept .size
+same-length-2 c = c .before .loop .inv .1 .kept .size ∙ c .before .before .before .before .constant-to2 .ensures .kept .size
 
 returns-2 : tie.Need-returns-2 Inv-loop μ-loop
 returns-2 c = let m = c .before .before .before .before in let e : c .before .loop .x + c .before .before .before .before .before .before .before .before .args .gap ≡ c .before .before .before .before .before .before .before .before .args .levels = omega arith in
-    let l = lent-piece (m .flat-to2 .ensures .kept) (omega (arith, m .flat-to2 .ensures .count (omega arith))) (c .before .before .before .before .before .before .before .before .pre .0 .0) in
+    let l = lent-piece (m .constant-to2 .ensures .kept) (omega (arith, m .constant-to2 .ensures .count (omega arith))) (c .before .before .before .before .before .before .before .before .pre .0 .0) in
     made (emits-then (omega arith) (omega arith)
-    (emits-as (λ j u v. shift-none (c .before .before .before .before .before .before .before .before .args .gap) j (piece (c .before .before .before .before .before .before .before .before .args .ws .now) (c .before .before .before .before .before .before .before .before .args .f) (c .before .before .before .before .before .before .before .before .args .levels)) v) (m .flat-to2 .ensures))
+    (emits-as (λ j u v. shift-none (c .before .before .before .before .before .before .before .before .args .gap) j (piece (c .before .before .before .before .before .before .before .before .args .ws .now) (c .before .before .before .before .before .before .before .before .args .f) (c .before .before .before .before .before .before .before .before .args .levels)) v) (m .constant-to2 .ensures))
     (emits-as (λ j u v. shift-same (c .before .before .before .before .before .before .before .before .args .gap) j (c .before .before .before .before .before .before .before .before .args .levels) _ _ l v) (rw e at (c .before .loop .inv .1))))
 
 pub shift-spec : {M : Type 1} → statement M
@@ -112,10 +112,10 @@ shift-spec =
     (tie.spec
     Inv-loop
     μ-loop
-    flat-to-requires
+    constant-to-requires
     same-length
     returns
-    flat-to-requires-2
+    constant-to-requires-2
     loop-holds
     add-loop
     mul-at
@@ -123,7 +123,7 @@ shift-spec =
     mul-e
     slice-read-e
     load-requires
-    shifted-requires
+    shift-requires
     sub-lesser
     sub-lesser-2
     lesser-requires

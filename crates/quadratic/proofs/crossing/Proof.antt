@@ -24,11 +24,11 @@ cut-requires c κs = search needs
 returns-2 : tie.Need-returns-2
 returns-2 c = let s = c .before .before .before .before .before .before .before .before .before in line-stays _ _ _ _ _ (c .before .before .before .before .before .before .if1 .taken) (omega arith) (s .pre .1) (c .cut .ensures)
 
-sub-turn : tie.Need-sub-turn
-sub-turn c = search needs
+sub-turning-point : tie.Need-sub-turning-point
+sub-turning-point c = search needs
 
-turn-requires : tie.Need-turn-requires
-turn-requires c κs = search needs
+turning-point-requires : tie.Need-turning-point-requires
+turning-point-requires c κs = search needs
 
 under-requires : tie.Need-under-requires
 under-requires c κs = search needs
@@ -39,16 +39,16 @@ returns-3 c = let t = c .before .before in let s = c .before .before .before .be
   high = omega arith;
   last = λ h. omega arith;
   under = λ m p q. ⊎-elim
-      (λ g. under-back _ _ _ _ _ (c .before .before .before .before .before .if3 .taken) (t .turn .ensures) (t .turn .result) (omega arith) u m p g)
-      (λ g. under-on _ _ _ _ _ (c .before .before .before .before .before .if3 .taken) (t .turn .ensures) u m (omega arith) q)
-      (le-or-lt m (t .turn .result));
+      (λ g. under-back _ _ _ _ _ (c .before .before .before .before .before .if3 .taken) (t .turning-point .ensures) (t .turning-point .result) (omega arith) u m p g)
+      (λ g. under-on _ _ _ _ _ (c .before .before .before .before .before .if3 .taken) (t .turning-point .ensures) u m (omega arith) q)
+      (le-or-lt m (t .turning-point .result));
 }
 
-halve-requires : tie.Need-halve-requires
-halve-requires c κs = let t = c .before .before in let s = c .before .before .before .before .before .before .before .before .before .before .before in let o : Over (s .args .w) (s .args .l) (t .turn .result) = leb-false _ _ (sym (c .before .under .ensures) ∙ c .if4 .left) in ((s .pre .0 .0, (apart _ _ _ _ (t .turn .ensures .low) (s .pre .1) o, omega arith)), (s .pre .1, o))
+bisect-requires : tie.Need-bisect-requires
+bisect-requires c κs = let t = c .before .before in let s = c .before .before .before .before .before .before .before .before .before .before .before in let o : Over (s .args .w) (s .args .l) (t .turning-point .result) = leb-false _ _ (sym (c .before .under .ensures) ∙ c .if4 .left) in ((s .pre .0 .0, (apart _ _ _ _ (t .turning-point .ensures .low) (s .pre .1) o, omega arith)), (s .pre .1, o))
 
 returns-4 : tie.Need-returns-4
-returns-4 c = let t = c .before .before .before in let e = c .halve .ensures in record { low = e .low; high = omega arith; last = λ h. e .last; under = λ m p q. under-back _ _ _ _ _ (c .before .before .before .before .before .before .if3 .taken) (t .turn .ensures) (c .halve .result) (omega arith) (e .under) m p q }
+returns-4 c = let t = c .before .before .before in let e = c .bisect .ensures in record { low = e .low; high = omega arith; last = λ h. e .last; under = λ m p q. under-back _ _ _ _ _ (c .before .before .before .before .before .before .if3 .taken) (t .turning-point .ensures) (c .bisect .result) (omega arith) (e .under) m p q }
 
 under-requires-2 : tie.Need-under-requires-2
 under-requires-2 c κs = search needs
@@ -56,11 +56,11 @@ under-requires-2 c κs = search needs
 returns-5 : tie.Need-returns-5
 returns-5 c = let s = c .before .before .before .before .before .before .before .before in let u = leb-true _ _ (sym (c .before .under2 .ensures) ∙ c .if5 .taken) in record { low = s .pre .0 .1 .0; high = omega arith; last = λ h. omega arith; under = λ m p q. under-between _ _ _ _ (c .before .before .if3 .left) (s .pre .1) u m p q }
 
-halve-requires-2 : tie.Need-halve-requires-2
-halve-requires-2 c κs = let s = c .before .before .before .before .before .before .before .before in let o : Over (s .args .w) (s .args .l) (s .args .y) = leb-false _ _ (sym (c .before .under2 .ensures) ∙ c .if5 .left) in ((s .pre .0 .0, (apart _ _ _ _ (s .pre .0 .1 .0) (s .pre .1) o, s .pre .0 .1 .1)), (s .pre .1, o))
+bisect-requires-2 : tie.Need-bisect-requires-2
+bisect-requires-2 c κs = let s = c .before .before .before .before .before .before .before .before in let o : Over (s .args .w) (s .args .l) (s .args .y) = leb-false _ _ (sym (c .before .under2 .ensures) ∙ c .if5 .left) in ((s .pre .0 .0, (apart _ _ _ _ (s .pre .0 .1 .0) (s .pre .1) o, s .pre .0 .1 .1)), (s .pre .1, o))
 
 returns-6 : tie.Need-returns-6
-returns-6 c = let s = c .before .before .before .before .before .before .before .before .before in let e = c .halve2 .ensures in record { low = e .low; high = omega arith; last = λ h. e .last; under = λ m p q. under-between _ _ _ _ (c .before .before .before .if3 .left) (s .pre .1) (e .under) m p q }
+returns-6 c = let s = c .before .before .before .before .before .before .before .before .before in let e = c .bisect2 .ensures in record { low = e .low; high = omega arith; last = λ h. e .last; under = λ m p q. under-between _ _ _ _ (c .before .before .before .if3 .left) (s .pre .1) (e .under) m p q }
 
 pub crossing-spec : {M : Type 1} → statement M
 crossing-spec =
@@ -71,13 +71,13 @@ crossing-spec =
     mul-cut
     cut-requires
     returns-2
-    sub-turn
-    turn-requires
+    sub-turning-point
+    turning-point-requires
     under-requires
     returns-3
-    halve-requires
+    bisect-requires
     returns-4
     under-requires-2
     returns-5
-    halve-requires-2
+    bisect-requires-2
     returns-6)

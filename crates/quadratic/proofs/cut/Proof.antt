@@ -8,6 +8,7 @@ use mir.Facts.{toZ-ofZ}
 use mir.Syntax.{w64}
 use mir.Val.{SFits}
 use Rattle.integers.specs.Rep.{eqZ, nz, _⊖_, ltZof}
+use Rattle.integers.proofs.Floor.{floor-down}
 use Rattle.quadratic.proofs.Laws.{cut-of}
 use Rattle.quadratic.proofs.cut.Statement.{statement}
 use Rattle.quadratic.proofs.cut.Tie as tie
@@ -40,13 +41,13 @@ fm : (c : tie.After-floor-div) → SFits w64 (c .floor-div .result)
 fm c = search needs
 
 floor-div-requires : tie.Need-floor-div-requires
-floor-div-requires c κs = rw (toZ-ofZ (fd c), ed c) (ltZof (nz 0) (nz (c .before .before .args .d)) (omega arith))
+floor-div-requires c κs = search needs
 
 place-requires : tie.Need-place-requires
 place-requires c κs = search needs
 
 returns : tie.Need-returns
-returns c = let f = c .before in let l = c .before .before in let e = rw (toZ-ofZ (fd l), ed l, toZ-ofZ (fn (c .before .before .before)), en (c .before .before .before)) at (f .floor-div .ensures) in cut-of _ _ _ _ _ _ (f .floor-div .result) (e .0) (e .1) (rw (toZ-ofZ (fm f)) at (c .place .ensures))
+returns c = let f = c .before in let l = c .before .before in let e = rw (toZ-ofZ (fd l), ed l, toZ-ofZ (fn (c .before .before .before)), en (c .before .before .before)) at (f .floor-div .ensures) in let d = floor-down _ _ (ltZof (nz 0) (nz (l .before .before .args .d)) (omega arith)) in cut-of _ _ _ _ _ _ (f .floor-div .result) (rw e (d .0)) (rw e (d .1)) (rw (toZ-ofZ (fm f)) at (c .place .ensures))
 
 pub cut-spec : {M : Type 1} → statement M
 cut-spec =

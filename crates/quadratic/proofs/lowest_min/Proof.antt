@@ -10,11 +10,11 @@ returns c = level _ _ _ (c .before .before .if1 .taken) (c .if2 .taken) (c .befo
 returns-2 : tie.Need-returns-2
 returns-2 c = slope _ _ _ (c .before .before .if1 .taken) (c .if2 .left) (c .before .before .before .before .pre .1 .0)
 
-turn-requires : tie.Need-turn-requires
-turn-requires c κs = omega arith
+turning-point-requires : tie.Need-turning-point-requires
+turning-point-requires c κs = omega arith
 
 returns-3 : tie.Need-returns-3
-returns-3 c = lowest-at-turn _ _ _ _ (c .turn .ensures)
+returns-3 c = lowest-at-turn _ _ _ _ (c .turning-point .ensures)
 
 pub lowest-min-spec : {M : Type 1} → statement M
-lowest-min-spec = tie.close (tie.spec returns returns-2 turn-requires returns-3)
+lowest-min-spec = tie.close (tie.spec returns returns-2 turning-point-requires returns-3)

@@ -1,0 +1,76 @@
+-- What the functions that read a list ask and give, for the lists of a layer. Assumes nothing.
+use mathlib.Core.Path.{_≡_, refl, sym, _∙_, ap, subst}
+use mathlib.Core.Logic.{_⊎_, inl, inr, ⊎-elim}
+use mathlib.Core.List.{List}
+use mathlib.Core.Bool.{Bool, true, false}
+use Prim.Native.Nat.{ℕ, suc, _+_, _-_, _*_, _≤_, _<_, min}
+use native.Mathlib.Omega.{arith}
+use lib.ListN.{length}
+use Rattle.plan.specs.declared.Plan.{Plan}
+use Rattle.model.specs.Model.{width, inSet}
+use Rattle.model.specs.Labels.{counts}
+use Rattle.model.specs.Index.{noCost}
+use Rattle.model.specs.Held.{Table, minBelow}
+use Rattle.model.specs.Ends.{pointAt}
+use Rattle.quadratic.specs.Quad.{Fine}
+use Rattle.curve.specs.declared.Low.{Low}
+use Rattle.curve.specs.Pieces.{piece, Held}
+use Rattle.curve.specs.Lows.{costs, Least, LeastIn}
+use Rattle.curve.specs.Curve.{Curve, Limits, curve-fine, curve-most}
+use Rattle.layer.specs.Edge.{Sound}
+use Rattle.layers.specs.declared.Shape.{Shape}
+use Rattle.layers.specs.Layer.{listAt, ShapeOf}
+use Rattle.back.specs.Read.{Readable, Reads, min-one-more, min-none-yet}
+use Rattle.layers.proofs.Next.{min-ext}
+
+module _ {cur : ℕ} {g : Shape} {ws : List ℕ} (a : Readable cur g ws) (k s : ℕ) (hk : k < counts) (hs : s < g .states) (f : ℕ) (ef : f ≡ listAt cur (g .states) (g .levels) k s) where
+  pub held : Held ws f (g .levels)
+  held = subst (λ (o : ℕ). Held ws o (g .levels)) (sym ef) (a .list k s hk hs .held)
+
+  pub fine : (j : ℕ) → j < g .levels → Fine 1048576 18014398509481984 (piece ws f (g .levels) j) (g .base + j)
+  fine = subst (λ (o : ℕ). (j : ℕ) → j < g .levels → Fine 1048576 18014398509481984 (piece ws o (g .levels) j) (g .base + j)) (sym ef) (curve-fine (a .bounds) (a .list k s hk hs))
+
+  pub sound : Sound 18014398509481984 (g .base) (g .levels) ws f
+  sound = subst (λ (o : ℕ). Sound 18014398509481984 (g .base) (g .levels) ws o) (sym ef) (a .list k s hk hs)
+
+  module _ {H : Table} (r : Reads cur g ws H) where
+    cost-is : (j : ℕ) → j < g .levels → costs (g .base) (piece ws f (g .levels)) j ≡ H k s j
+    cost-is j h = ap (λ (o : ℕ). costs (g .base) (piece ws o (g .levels)) j) ef ∙ r .at k s j hk hs h
+
+    cost-most : (j : ℕ) → j < g .levels → H k s j ≤ noCost
+    cost-most j h = omega (arith, r .at k s j hk hs h, curve-most (a .bounds) (a .list k s hk hs) j h)
+
+    module _ (P : Plan) (e : ShapeOf P g) where
+      pub least-all : {low : Low} → LeastIn (costs (g .base) (piece ws f (g .levels))) 0 (g .levels - 1) low → Least (H k s) 0 (width P - 1) low
+      least-all {low} l =
+          let m = l .some (omega arith) in
+          let n = a .some in
+          record {
+            low = m .low;
+            high = omega (arith, m .high, e .levels);
+            is = m .is ∙ cost-is (low .level) (omega (arith, m .high));
+            least = λ i p q. omega (arith, m .least i p (omega (arith, e .levels)), cost-is i (omega (arith, e .levels)));
+            first = λ i p q. omega (arith, m .first i p q, cost-is i (omega (arith, m .high)));
+          }
+
+      pub least-most : {low : Low} → Least (H k s) 0 (width P - 1) low → low .value ≤ noCost
+      least-most {low} l = let n = a .some in omega (arith, l .is, cost-most (low .level) (omega (arith, l .high, e .levels)))
+
+-- ---- the cost at a point, count by count
+
+-- the least over the first n counts of what the lists cost at state s and index j
+abbrev pub pointTo : ℕ → Shape → List ℕ → ℕ → ℕ → ℕ → ℕ
+pointTo cur g ws s j n = minBelow n (λ (k : ℕ). costs (g .base) (piece ws (listAt cur (g .states) (g .levels) k s) (g .levels)) j)
+
+pub point-none : (cur : ℕ) (g : Shape) (ws : List ℕ) (s j : ℕ) → noCost ≡ pointTo cur g ws s j 0
+point-none cur g ws s j = sym (min-none-yet _)
+
+pub point-more : (cur : ℕ) (g : Shape) (ws : List ℕ) (s j n best f v r : ℕ) → best ≡ pointTo cur g ws s j n → f ≡ listAt cur (g .states) (g .levels) n s
+    → v ≡ costs (g .base) (piece ws f (g .levels)) j → r ≡ min best v → r ≡ pointTo cur g ws s j (n + 1)
+point-more cur g ws s j n best f v r eb ef ev er =
+    er ∙ ap (λ (x : ℕ). min x v) eb ∙ ap (min (pointTo cur g ws s j n)) (ev ∙ ap (λ (o : ℕ). costs (g .base) (piece ws o (g .levels)) j) ef) ∙ sym (min-one-more n _)
+
+pub point-all : {cur : ℕ} {g : Shape} {ws : List ℕ} {H : Table} (s j n best : ℕ) → Reads cur g ws H → s < g .states → j < g .levels → n ≡ counts → best ≡ pointTo cur g ws s j n → best ≡ pointAt H s j
+unfolding pointAt
+point-all {cur} {g} {ws} {H} s j n best r hs hj e b =
+    b ∙ ap (pointTo cur g ws s j) e ∙ min-ext counts _ _ (λ k hk. r .at k s j hk hs hj)

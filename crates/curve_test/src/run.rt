@@ -1,0 +1,213 @@
+// The operations on lists in the workspace, once what they ask for is tested.
+use curve::Low;
+use layer::Temps;
+use plan::Kind;
+ghost use mathlib.Core.Path.{_≡_};
+ghost use mathlib.Core.Bool.{true};
+ghost use Prim.Native.Nat.{_≤_};
+ghost use Rattle.plan.specs.Build.{gapOf};
+ghost use Rattle.curve_test.specs.Valid.{Separate};
+
+// A constant; false where there is no room.
+pub fn constant(ws: &mut [u64], dst: usize, x: u64, levels: u64) -> bool {
+    if !crate::list::room(ws, dst, levels) {
+        return false;
+    }
+    curve::constant(ws, dst, levels, x);
+    true
+}
+
+// An operation on the list at f; false where it is not one that may be taken.
+pub fn on_one(
+    ws: &mut [u64],
+    op: u64,
+    f: usize,
+    dst: usize,
+    x: u64,
+    levels: u64,
+    base: u64,
+) -> bool {
+    if !crate::list::valid(ws, f, levels, base) {
+        return false;
+    }
+    if !crate::list::apart(f, dst, levels) {
+        return false;
+    }
+    if !crate::list::room(ws, dst, levels) {
+        return false;
+    }
+    if op == 1 {
+        curve::add_loss(ws, f, 131072 + x % 65536, 1 + x % 255, dst, levels);
+        return true;
+    }
+    if op == 2 {
+        curve::shift(ws, f, x % 50, dst, levels);
+        return true;
+    }
+    if op == 3 {
+        curve::mirror(ws, f, dst, levels, base);
+        return true;
+    }
+    if op == 4 {
+        curve::running_min(ws, f, dst, levels, base);
+        return true;
+    }
+    let n = curve::count(ws, f, levels);
+    curve::copy(ws, f, dst, levels) == n
+}
+
+// The least of two lists, with a penalty on the second.
+pub fn on_two(
+    ws: &mut [u64],
+    f: usize,
+    g: usize,
+    dst: usize,
+    pen: u64,
+    levels: u64,
+    base: u64,
+) -> bool {
+    if !crate::list::valid(ws, f, levels, base) {
+        return false;
+    }
+    if !crate::list::valid(ws, g, levels, base) {
+        return false;
+    }
+    if !crate::list::apart(f, dst, levels) {
+        return false;
+    }
+    if !crate::list::apart(g, dst, levels) {
+        return false;
+    }
+    if !crate::list::room(ws, dst, levels) {
+        return false;
+    }
+    if 1048576 < pen {
+        return false;
+    }
+    curve::least_of_two(ws, f, g, pen, dst, levels, base);
+    true
+}
+
+// Whether the temporary lists and the one at f share no word.
+fn in_hand(t: Temps, f: usize, levels: u64) -> bool
+    ensures { λ r. ⌜ (r ≡ true → Separate t f levels) ⌝ }
+{
+    let acc = t.acc;
+    let next = t.next;
+    let work = t.work;
+    if !crate::list::apart(f, acc, levels) {
+        return false;
+    }
+    if !crate::list::apart(f, next, levels) {
+        return false;
+    }
+    if !crate::list::apart(f, work, levels) {
+        return false;
+    }
+    if !crate::list::apart(acc, next, levels) {
+        return false;
+    }
+    if !crate::list::apart(acc, work, levels) {
+        return false;
+    }
+    crate::list::apart(next, work, levels)
+}
+
+// A kind by its number, with a gap below 1024.
+fn kind_of(number: u64, gap: u64) -> Kind
+    ensures { λ r. ⌜ gapOf r ≤ 1023 ⌝ }
+{
+    if number == 0 {
+        return Kind::Stay;
+    }
+    if number == 1 {
+        return Kind::Any;
+    }
+    let g = (gap % 1024) as u16;
+    if number == 2 {
+        return Kind::Up(g);
+    }
+    if number == 3 {
+        return Kind::Down(g);
+    }
+    Kind::Abs(g)
+}
+
+// An edge from the list at f into the one at t.acc: where the least is then; past every list where it could not be taken.
+pub fn edge(
+    ws: &mut [u64],
+    t: Temps,
+    f: usize,
+    number: u64,
+    gap: u64,
+    pen: u64,
+    levels: u64,
+    base: u64,
+) -> usize {
+    let acc = t.acc;
+    let next = t.next;
+    let work = t.work;
+    if !in_hand(t, f, levels) {
+        return 1048577;
+    }
+    if !crate::list::valid(ws, acc, levels, base) {
+        return 1048577;
+    }
+    if !crate::list::valid(ws, f, levels, base) {
+        return 1048577;
+    }
+    if !crate::list::room(ws, next, levels) {
+        return 1048577;
+    }
+    if !crate::list::room(ws, work, levels) {
+        return 1048577;
+    }
+    if 1048576 < pen {
+        return 1048577;
+    }
+    let kind = kind_of(number, gap);
+    let r = layer::take_edge(ws, t, f, kind, pen, levels, base);
+    r.acc
+}
+
+// The least on a range; level 1048577 where the list may not be read.
+pub fn range(ws: &[u64], f: usize, from: u64, to: u64, levels: u64, base: u64) -> Low {
+    let bad = Low {
+        value: 0,
+        level: 1048577,
+    };
+    if !crate::list::valid(ws, f, levels, base) {
+        return bad;
+    }
+    if levels <= to {
+        return bad;
+    }
+    curve::least_in(ws, f, from, to, levels, base)
+}
+
+// The least over the levels from which an edge leads to j.
+pub fn before(ws: &[u64], f: usize, number: u64, gap: u64, j: u64, levels: u64, base: u64) -> Low {
+    let bad = Low {
+        value: 0,
+        level: 1048577,
+    };
+    if !crate::list::valid(ws, f, levels, base) {
+        return bad;
+    }
+    if levels <= j {
+        return bad;
+    }
+    let kind = kind_of(number, gap);
+    layer::least_before(ws, f, kind, j, levels, base)
+}
+
+// What the list at f costs at level j; more than any cost where it may not be read.
+pub fn value(ws: &[u64], f: usize, j: u64, levels: u64, base: u64) -> u64 {
+    if !crate::list::valid(ws, f, levels, base) {
+        return 18446744073709551615;
+    }
+    if levels <= j {
+        return 18446744073709551615;
+    }
+    curve::value_at(ws, f, j, levels, base)
+}

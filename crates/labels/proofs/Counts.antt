@@ -1,0 +1,115 @@
+-- Cases of a boundary's definitions, over plain values. Assumes nothing.
+use mathlib.Core.Path.{_≡_, refl, sym, _∙_, ap}
+use mathlib.Core.Option.{Option, none, some}
+use mathlib.Core.Bool.{Bool, true, false, _&&_, cond}
+use mathlib.Core.List.{List}
+use Prim.Native.Nat.{ℕ, zero, suc, _+_, _-_, _≤_, _<_}
+use native.Mathlib.Omega.{arith}
+use native.Mathlib.Numerals.{add-one}
+use lib.Dec.{eqb, leb, ltb}
+use lib.ListN.{getD}
+use borrow.Author.Tests.{eq-eqb, ne-eqb}
+use Rattle.plan.specs.declared.Plan.{Plan}
+use Rattle.plan.specs.declared.Label.{Label}
+use Rattle.plan.specs.declared.Edge.{Edge}
+use Rattle.plan.specs.declared.Kind.{Kind}
+use Rattle.plan.specs.declared.Kind.the-variants.{Stay, Any, Up, Down, Abs}
+use Rattle.plan.specs.Build.{noLabel}
+use Rattle.model.specs.Model.{labelAt, changeOf, within, markOf, need}
+use Rattle.model.specs.Labels.{covering, labelOn, countAfter, countBefore, labelTest}
+use Rattle.labels.specs.declared.Cover.{Cover}
+use Rattle.labels.specs.declared.Cover.the-variants.{Free, By}
+use Rattle.labels.specs.Boundary.{labelOf, leadsFrom}
+
+-- ---- the label at a boundary, by the list of labels
+
+unfoldable pub coveringIn : List Label → ℕ → ℕ → Option Label
+coveringIn ls zero t = none
+coveringIn ls (suc i) t = cond (within (getD ls i noLabel .p) (getD ls i noLabel .q) t) (some (getD ls i noLabel)) (coveringIn ls i t)
+
+covering-in : (P : Plan) (n t : ℕ) → covering P n t ≡ coveringIn (P .labels) n t
+unfolding covering coveringIn
+covering-in P zero t = refl
+covering-in P (suc n) t = rw (covering-in P n t) refl
+
+pub label-on-in : (P : Plan) (t : ℕ) → labelOn P t ≡ coveringIn (P .labels) (P .labelcount) t
+unfolding labelOn
+label-on-in P t = covering-in P (P .labelcount) t
+
+module _ (ls : List Label) (t i : ℕ) where
+  pub cover-none : i ≤ 0 → coveringIn ls i t ≡ none
+  unfolding coveringIn
+  cover-none h = let e : i ≡ 0 = omega arith in rw e refl
+
+  step : coveringIn ls (i - 1 + 1) t ≡ cond (within (getD ls (i - 1) noLabel .p) (getD ls (i - 1) noLabel .q) t) (some (getD ls (i - 1) noLabel)) (coveringIn ls (i - 1) t)
+  unfolding coveringIn
+  step = rw (add-one (i - 1)) refl
+
+  pub cover-here : 0 < i → (b : Bool) → b ≡ within (getD ls (i - 1) noLabel .p) (getD ls (i - 1) noLabel .q) t → b ≡ true → coveringIn ls i t ≡ some (getD ls (i - 1) noLabel)
+  cover-here h b e p = ap (λ n. coveringIn ls n t) (omega arith) ∙ step ∙ rw (← e, p) refl
+
+  pub cover-not : 0 < i → (b : Bool) → b ≡ within (getD ls (i - 1) noLabel .p) (getD ls (i - 1) noLabel .q) t → b ≡ false → coveringIn ls i t ≡ coveringIn ls (i - 1) t
+  cover-not h b e p = ap (λ n. coveringIn ls n t) (omega arith) ∙ step ∙ rw (← e, p) refl
+
+-- ---- counts
+
+pub change-most : (x : Kind) → changeOf x ≤ 1
+unfolding changeOf
+change-most Stay = omega arith
+change-most Any = omega arith
+change-most (Up g) = omega arith
+change-most (Down g) = omega arith
+change-most (Abs g) = omega arith
+
+module _ (t : ℕ) (x : Kind) (k : ℕ) (o : Cover) where
+  pub after-free : o ≡ Free → 0 ≡ countAfter (labelOf o) t x k
+  unfolding countAfter
+  after-free e = rw e refl
+
+  pub before-free : o ≡ Free → 0 ≡ countBefore (labelOf o) t x k
+  unfolding countBefore
+  before-free e = rw e refl
+
+  pub test-free : o ≡ Free → eqb k 0 ≡ labelTest (labelOf o) t x k
+  unfolding labelTest
+  test-free e = rw e refl
+
+  module _ (l : Label) (e : o ≡ By l) (b : Bool) (eb : b ≡ eqb (suc t) (l .q)) where
+    pub after-closed : b ≡ true → 0 ≡ countAfter (labelOf o) t x k
+    unfolding countAfter
+    after-closed p = rw (e, ← eb, p) refl
+
+    module _ (m : ℕ) (em : m ≡ changeOf x) where
+      pub after-open : b ≡ false → k + m ≡ countAfter (labelOf o) t x k
+      unfolding countAfter markOf
+      after-open p = rw (e, ← eb, p, em) refl
+
+      pub before-closed : b ≡ true → l .c - m ≡ countBefore (labelOf o) t x k
+      unfolding countBefore markOf need
+      before-closed p = rw (e, ← eb, p, em) refl
+
+      pub before-open : b ≡ false → k - m ≡ countBefore (labelOf o) t x k
+      unfolding countBefore markOf
+      before-open p = rw (e, ← eb, p, em) refl
+
+      pub test-closed : b ≡ true → eqb (k + m) (l .c) ≡ labelTest (labelOf o) t x k
+      unfolding labelTest markOf need
+      test-closed p = rw (e, ← eb, p, em) refl
+
+      pub test-open : b ≡ false → leb (k + m) (l .c) ≡ labelTest (labelOf o) t x k
+      unfolding labelTest markOf need
+      test-open p = rw (e, ← eb, p, em) refl
+
+module _ (o : Option Label) (t : ℕ) (e : Edge) (k s : ℕ) where
+  pub leads-state : (s ≡ e .to → ⊥) → false ≡ leadsFrom o t e k s
+  unfolding leadsFrom
+  leads-state h = rw (ne-eqb s (e .to) h) refl
+
+  module _ (h : s ≡ e .to) (c : ℕ) (ec : c ≡ countBefore o t (e .kind) k) (b : Bool) (eb : b ≡ labelTest o t (e .kind) c) where
+    pub leads-not : b ≡ false → false ≡ leadsFrom o t e k s
+    unfolding leadsFrom
+    leads-not p = rw (eq-eqb s (e .to) h, ← ec, ← eb, p) refl
+
+    pub leads-so : b ≡ true → (a : ℕ) → a ≡ countAfter o t (e .kind) c → eqb k a ≡ leadsFrom o t e k s
+    unfolding leadsFrom
+    leads-so p a ea = rw (eq-eqb s (e .to) h, ← ec, ← eb, p, ← ea) refl

@@ -1,0 +1,145 @@
+// Labels at one boundary: which label has it, and what its rule makes of the count of changes.
+use plan::Edge;
+use plan::Kind;
+use plan::Label;
+use plan::Plan;
+ghost use mathlib.Core.Path.{_≡_};
+ghost use Prim.Native.Nat.{suc, _-_, _+_, _≤_, _<_};
+ghost use lib.Dec.{eqb};
+ghost use Rattle.model.specs.Model.{changeOf, within};
+ghost use Rattle.model.specs.Labels.{labelOn, countAfter, countBefore, labelTest};
+ghost use Rattle.labels.specs.Boundary.{labelOf, leadsFrom};
+
+// The label that has a boundary.
+pub enum Cover {
+    Free,
+    By(Label),
+}
+
+// How many counts of changes are kept apart inside an open label: 0 and 1.
+pub const COUNTS: usize = 2;
+
+// 1 for a change, 0 for a stay.
+pub fn change_of(k: Kind) -> usize
+    ensures { λ r. ⌜ r ≡ changeOf k ⌝ }
+{
+    match k {
+        Kind::Stay => 0,
+        Kind::Any => 1,
+        Kind::Up(_) => 1,
+        Kind::Down(_) => 1,
+        Kind::Abs(_) => 1,
+    }
+}
+
+// Boundaries p to q - 1 have t.
+fn is_within(l: Label, t: usize) -> bool
+    ensures { λ r. ⌜ r ≡ within (l .p) (l .q) t ⌝ }
+{
+    if (l.p as usize) <= t {
+        t < (l.q as usize)
+    } else {
+        false
+    }
+}
+
+// The label that has boundary t.
+pub fn label_on(plan: Plan, t: usize) -> Cover
+    requires { ⌜ plan .labelcount ≤ 64 ⌝ }
+    ensures { λ r. ⌜ labelOf r ≡ labelOn plan t ⌝ }
+{
+    let labels = plan.labels;
+    let mut i = plan.labelcount;
+    while 0 < i {
+        i -= 1;
+        let l = labels[i];
+        if is_within(l, t) {
+            return Cover::By(l);
+        }
+    }
+    Cover::Free
+}
+
+// a less b, 0 where b is more.
+fn monus(a: usize, b: usize) -> usize
+    ensures { λ r. ⌜ r ≡ a - b ⌝ }
+{
+    if a < b { 0 } else { a - b }
+}
+
+// Boundary t is the last that the label has.
+fn closes(l: Label, t: usize) -> bool
+    requires { ⌜ t < 65536 ⌝ }
+    ensures { λ r. ⌜ r ≡ eqb (suc t) (l .q) ⌝ }
+{
+    t + 1 == (l.q as usize)
+}
+
+// The count of changes before boundary t, from the count k after it.
+pub fn count_before(on: Cover, t: usize, x: Kind, k: usize) -> usize
+    requires { ⌜ (t < 65536) × (k < 65536) ⌝ }
+    ensures { λ r. ⌜ (r ≡ countBefore (labelOf on) t x k) × (r < 65536) ⌝ }
+{
+    match on {
+        Cover::Free => 0,
+        Cover::By(l) => {
+            if closes(l, t) {
+                monus(l.c as usize, change_of(x))
+            } else {
+                monus(k, change_of(x))
+            }
+        }
+    }
+}
+
+// The count after boundary t, from the count k before it.
+fn count_after(on: Cover, t: usize, x: Kind, k: usize) -> usize
+    requires { ⌜ (t < 65536) × (k < 65536) ⌝ }
+    ensures { λ r. ⌜ r ≡ countAfter (labelOf on) t x k ⌝ }
+{
+    match on {
+        Cover::Free => 0,
+        Cover::By(l) => {
+            if closes(l, t) {
+                0
+            } else {
+                k + change_of(x)
+            }
+        }
+    }
+}
+
+// The label's rule is kept at boundary t, with the count k before it.
+fn label_test(on: Cover, t: usize, x: Kind, k: usize) -> bool
+    requires { ⌜ (t < 65536) × (k < 65536) ⌝ }
+    ensures { λ r. ⌜ r ≡ labelTest (labelOf on) t x k ⌝ }
+{
+    match on {
+        Cover::Free => k == 0,
+        Cover::By(l) => {
+            let after = k + change_of(x);
+            if closes(l, t) {
+                after == (l.c as usize)
+            } else {
+                after <= (l.c as usize)
+            }
+        }
+    }
+}
+
+// The edge may lead at boundary t to state s with count k.
+pub fn leads(on: Cover, t: usize, e: Edge, k: usize, s: usize) -> bool
+    requires { ⌜ (t < 65536) × (k < 65536) ⌝ }
+    ensures { λ r. ⌜ r ≡ leadsFrom (labelOf on) t e k s ⌝ }
+{
+    if s != (e.to as usize) {
+        return false;
+    }
+    let x = e.kind;
+    let before = count_before(on, t, x, k);
+    if label_test(on, t, x, before) {
+        k == count_after(on, t, x, before)
+    } else {
+        false
+    }
+}

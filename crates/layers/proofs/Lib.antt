@@ -1,0 +1,4 @@
+pub mod Took
+pub mod Edges
+pub mod Next
+pub mod Lists

@@ -1,0 +1,172 @@
+-- The stack of saved layers: its table, and what its entries hold. Assumes nothing.
+use mathlib.Core.Path.{_≡_, refl, sym, _∙_, ap, subst}
+use mathlib.Core.Logic.{⊎-elim}
+use mathlib.Core.List.{List}
+use Prim.Native.Nat.{ℕ, zero, suc, _+_, _-_, _*_, _/_, _%_, _≤_, _<_}
+use native.Mathlib.Omega.{arith}
+use native.Mathlib.Nat.{mul-le-mul, mul-le-mul-right, div-add-mod', mod-lt}
+use native.Mathlib.Numerals.{add-one}
+use lib.IntN.{ℤ}
+use lib.ListN.{length, getD, set, length-set}
+use lib.Seq.{getD-set-same, getD-set-other}
+use Rattle.integers.specs.Rep.{le-or-lt}
+use Rattle.plan.specs.declared.Plan.{Plan}
+use Rattle.model.specs.Model.{width}
+use Rattle.model.specs.Labels.{counts}
+use Rattle.model.specs.Ends.{tableAt}
+use Rattle.curve.specs.Pieces.{Held}
+use Rattle.curve.specs.Lists.{count-most, count-same}
+use Rattle.curve.specs.Curve.{Curve, curve-same}
+use Rattle.layers.specs.Layer.{stepMost, baseOf, listAt, Layer}
+use Rattle.layers.specs.Next.{layerWords}
+use Rattle.layers.proofs.Next.{list-within}
+use Rattle.saved.specs.declared.Saved.{Saved}
+use Rattle.saved.specs.Packed.{Chain, Row, Packing, Unpacked}
+use Rattle.saved.specs.Walk.{stackAt, limit, Packed, Entry, Stack, timeOf, offOf, Empty, Pushed, Dropped}
+use Rattle.saved.proofs.Chains.{chain-low, chain-next, chain-part, chain-same}
+
+pub product-low : (x y : ℕ) → x ≤ 4096 → y ≤ 8192 → x * y ≤ 33554432
+product-low x y h g = mul-le-mul h g
+
+-- ---- the table
+
+set-old : (l : List ℕ) (i j x : ℕ) → (j ≡ i → ⊥) → getD (set l i x) j 0 ≡ getD l j 0
+set-old l i j x n = getD-set-other l i j x 0 n
+
+pub pushed : (s : Saved) (t e : ℕ) → s .count < 96 → length (s .time) ≡ 96 → length (s .off) ≡ 97 → Pushed s t e (record { count = s .count + 1; time = set (s .time) (s .count) t; off = set (s .off) (s .count + 1) e })
+pushed s t e h a b = record {
+  times = length-set (s .time) (s .count) t;
+  offs = length-set (s .off) (s .count + 1) e;
+  count = refl;
+  time = getD-set-same (s .time) (s .count) t 0 (omega arith);
+  off = getD-set-same (s .off) (s .count + 1) e 0 (omega arith);
+  old-time = λ i g. set-old (s .time) (s .count) i t (λ p. omega arith);
+  old-off = λ i g. set-old (s .off) (s .count + 1) i e (λ p. omega arith);
+}
+
+-- ---- one layer
+
+-- the number of a list among those of its layer
+list-number : (S k s : ℕ) → k < counts → s < S → k * S + s < counts * S
+list-number S k s hk hs = omega (arith, mul-le-mul-right S hk)
+
+module _ {P : Plan} {zs : List ℤ} {t : ℕ} where
+  pub layer-same : {ws ws′ : List ℕ} {o : ℕ} → length ws′ ≡ length ws → ((i : ℕ) → o ≤ i → i < o + layerWords P → getD ws′ i 0 ≡ getD ws i 0) → Layer P zs t ws o → Layer P zs t ws′ o
+  layer-same {o = o} e f y = record {
+    list = λ k s hk hs.
+        let b = list-within o (P .states) (width P) k s hk hs in
+        let c = y .list k s hk hs in
+        curve-same e c (record { word = λ i u v. f i (omega arith) (omega (arith, count-most (c .held .formed))) });
+  }
+
+  -- its lists in their order
+  pub layer-row : {ws : List ℕ} {o : ℕ} → 1 ≤ P .states → P .states ≤ 8 → width P ≤ 1024 → Layer P zs t ws o → Row ws o (counts * P .states) (width P)
+  unfolding listAt
+  layer-row {ws} {o} h few narrow y = record {
+    list = λ q g.
+        let e : q / P .states * P .states + q % P .states ≡ q = div-add-mod' q (P .states) in
+        let m : q % P .states < P .states = mod-lt q h in
+        let k : q / P .states < counts = ⊎-elim (λ p. absurd (omega (arith, mul-le-mul-right (P .states) p))) (λ p. p) (le-or-lt counts (q / P .states)) in
+        subst (λ (x : ℕ). Held ws (o + x * (4 * width P)) (width P)) e (y .list (q / P .states) (q % P .states) k m .held);
+    few = omega arith;
+    narrow = narrow;
+  }
+
+  pub layer-packed : {ws ws′ : List ℕ} {o a e : ℕ} → Layer P zs t ws o → Packing ws ws′ o a e (counts * P .states) (width P) → Packed P zs t ws′ a e
+  unfolding listAt
+  layer-packed y p = record {
+    chain = p .chain;
+    list = λ k s m hk hs d. p .moved (k * P .states + s) m (list-number (P .states) k s hk hs) d .curve _ _ _ _ (y .list k s hk hs);
+  }
+
+  pub packed-layer : {ws ws′ : List ℕ} {o a e : ℕ} → Packed P zs t ws a e → Unpacked ws ws′ a o (counts * P .states) (width P) → Layer P zs t ws′ o
+  unfolding listAt
+  packed-layer y p = record {
+    list = λ k s hk hs.
+        let n = list-number (P .states) k s hk hs in
+        let d = chain-part (k * P .states + s) (y .chain) (omega arith) in
+        p .moved (k * P .states + s) (d .end) n (d .chain) .curve _ _ _ _ (y .list k s (d .end) hk hs (d .chain));
+  }
+
+  pub packed-same : {ws ws′ : List ℕ} {a e : ℕ} → length ws′ ≡ length ws → ((i : ℕ) → a ≤ i → i < e → getD ws′ i 0 ≡ getD ws i 0) → Packed P zs t ws a e → Packed P zs t ws′ a e
+  packed-same {ws} {ws′} {a} {e} z f y = record { chain = there; list = each }
+    where
+      there : Chain (width P) ws′ a (counts * P .states) e
+      there = chain-same z f (y .chain)
+
+      each : (k s m : ℕ) → k < counts → s < P .states → Chain (width P) ws′ a (k * P .states + s) m → Curve t (t * stepMost) (baseOf P) (width P) ws′ m (tableAt P zs t k s)
+      each k s m hk hs d =
+          let n = list-number (P .states) k s hk hs in
+          let b = chain-next there d n in
+          let d′ = chain-same (sym z) (λ i u v. sym (f i u (omega (arith, b .by)))) d in
+          let c = y .list k s m hk hs d′ in
+          let b′ = chain-next (y .chain) d′ n in
+          curve-same z c (record { word = λ i u v. f i (omega (arith, chain-low d′)) (omega (arith, b′ .by, count-same (c .held .formed) (b′ .held .formed))) })
+
+-- ---- the stack
+
+module _ {P : Plan} {zs : List ℤ} {s : Saved} where
+  module _ {ws : List ℕ} (k : Stack P zs s ws) where
+    rises : (i : ℕ) → i < s .count → offOf s i ≤ offOf s (i + 1)
+    rises i h = chain-low (k .entry i h .packed .chain)
+
+    pub off-low : (i : ℕ) → i ≤ s .count → stackAt P ≤ offOf s i
+    off-low zero h = omega (arith, k .first)
+    off-low (suc i) h = rw (← add-one i) (omega (arith, off-low i (omega arith), rises i (omega arith)))
+
+    off-top : (d i : ℕ) → i + d ≡ s .count → offOf s i ≤ offOf s (s .count)
+    off-top zero i h = let e : i ≡ s .count = omega arith in rw e (omega arith)
+    off-top (suc d) i h = omega (arith, rises i (omega arith), off-top d (i + 1) (omega arith))
+
+    pub off-high : (i : ℕ) → i ≤ s .count → offOf s i ≤ offOf s (s .count)
+    off-high i h = off-top (s .count - i) i (omega arith)
+
+    pub stack-same : {ws′ : List ℕ} → length ws′ ≡ length ws → ((i : ℕ) → stackAt P ≤ i → i < offOf s (s .count) → getD ws′ i 0 ≡ getD ws i 0) → Stack P zs s ws′
+    stack-same z f = record {
+      times = k .times;
+      offs = k .offs;
+      few = k .few;
+      first = k .first;
+      top = k .top;
+      entry = λ i h. let y = k .entry i h in record {
+        some = y .some;
+        most = y .most;
+        packed = packed-same z (λ j u v. f j (omega (arith, off-low i (omega arith))) (omega (arith, off-high (i + 1) (omega arith)))) (y .packed);
+      };
+    }
+
+    pub stack-pushed : {t e : ℕ} {r : Saved} → s .count < 96 → Pushed s t e r → 1 ≤ t → t ≤ length zs → e ≤ limit P → Packed P zs t ws (offOf s (s .count)) e → Stack P zs r ws
+    stack-pushed {t} {e} {r} few p some most fits y = record {
+      times = p .times ∙ k .times;
+      offs = p .offs ∙ k .offs;
+      few = omega (arith, p .count);
+      first = p .old-off 0 (omega arith) ∙ k .first;
+      top = rw (p .count, p .off) fits;
+      entry = λ i h. ⊎-elim (λ q. let w : s .count ≡ i = omega (arith, p .count) in subst (λ (x : ℕ). Entry P zs (timeOf r x) ws (offOf r x) (offOf r (x + 1))) w new) (λ q. old i q) (le-or-lt (s .count) i);
+    }
+      where
+        new : Entry P zs (timeOf r (s .count)) ws (offOf r (s .count)) (offOf r (s .count + 1))
+        new = rw (p .time, p .old-off (s .count) (omega arith), p .off) (record { some = some; most = most; packed = y })
+
+        old : (i : ℕ) → i < s .count → Entry P zs (timeOf r i) ws (offOf r i) (offOf r (i + 1))
+        old i q = rw (p .old-time i q, p .old-off i (omega arith), p .old-off (i + 1) (omega arith)) (k .entry i q)
+
+    pub stack-dropped : {t : ℕ} {r : Saved} → Dropped s t r → Stack P zs r ws
+    stack-dropped {t} {r} d = record {
+      times = ap length (d .time) ∙ k .times;
+      offs = ap length (d .off) ∙ k .offs;
+      few = omega (arith, d .count, k .few);
+      first = rw (d .off) (k .first);
+      top = rw (d .off) (omega (arith, off-high (r .count) (d .count), k .top));
+      entry = λ i h. rw (d .time, d .off) (k .entry i (omega (arith, d .count)));
+    }
+
+  pub stack-empty : {a : ℕ} (ws : List ℕ) → a ≡ stackAt P → stackAt P ≤ limit P → Empty a s → Stack P zs s ws
+  stack-empty ws e h m = record {
+    times = m .times;
+    offs = m .offs;
+    few = omega (arith, m .count);
+    first = m .off ∙ e;
+    top = rw (m .count) (omega (arith, m .off));
+    entry = λ i g. absurd (omega (arith, m .count));
+  }

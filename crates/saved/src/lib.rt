@@ -1,0 +1,341 @@
+// The layers in any order of time: some are saved, packed end to end in the workspace, and the others made again from them.
+// What is saved, and when, never changes an answer: each entry of the stack holds the layer after as many readings as it says.
+//
+// The words of the workspace, with S states and L levels: two layers from 0 and from 8 · S · L, three lists of next_layer from
+// 16 · S · L, and the stack of saved layers from 16 · S · L + 12 · L up to 48 · S · L.
+use layers::Shape;
+use plan::Plan;
+ghost use mathlib.Core.Path.{_≡_};
+ghost use Prim.Native.Nat.{_+_, _*_, _≤_, _<_};
+ghost use lib.ListN.{length};
+ghost use Rattle.layers.specs.Layer.{Shape-small};
+ghost use Rattle.saved.specs.Packed.{Row, PackReady, Saves, UnpackReady, Unpacked};
+ghost use Rattle.saved.specs.Walk.{Workspace, At, Goes, Walked, Places, Stack, Pushed, Dropped, Restarted, Stops, Empty};
+
+// The most layers that are saved.
+pub const SLOTS: usize = 96;
+
+// Entry i: the layer after time[i] readings, packed in the words from off[i] up to off[i + 1].
+pub struct Saved {
+    pub count: usize,
+    pub time: [usize; SLOTS],
+    pub off: [usize; SLOTS + 1],
+}
+
+// The layer after `time` readings stands at cur; other is where the other layer has its place.
+pub struct Walk {
+    pub time: usize,
+    pub cur: usize,
+    pub other: usize,
+    pub saved: Saved,
+}
+
+// Where packed lists end, or that there is no room for them.
+pub enum Room {
+    Upto(usize),
+    Full,
+}
+
+// States times levels: S · L above.
+fn area(g: Shape) -> usize
+    requires { ⌜ Shape-small g ⌝ }
+    ensures { λ r. ⌜ (r ≡ g .states * g .levels) × (r ≤ 8192) ⌝ }
+{
+    g.states * (g.levels as usize)
+}
+
+// The n lists from o on, packed from at on, unless they reach past limit.
+fn pack(ws: &mut [u64], o: usize, at: usize, limit: usize, n: usize, levels: u64) -> Room
+    requires { ⌜ PackReady (now ws) o at limit n levels ⌝ }
+    ensures { λ r. ⌜ Saves (now (ws .entry)) (now (ws .exit)) o at limit n levels r ⌝ }
+{
+    let size = 4 * (levels as usize);
+    let mut to = at;
+    let mut q = 0;
+    while q < n {
+        let f = o + q * size;
+        let words = 4 * curve::count(ws, f, levels);
+        if limit - to < words {
+            return Room::Full;
+        }
+        curve::copy(ws, f, to, levels);
+        to += words;
+        q += 1;
+    }
+    Room::Upto(to)
+}
+
+// The n lists packed from at on, put in their places from o on.
+fn unpack(ws: &mut [u64], at: usize, o: usize, n: usize, levels: u64)
+    requires { ⌜ UnpackReady (now ws) at o n levels ⌝ }
+    ensures { λ r. ⌜ Unpacked (now (ws .entry)) (now (ws .exit)) at o n levels ⌝ }
+{
+    let size = 4 * (levels as usize);
+    let mut from = at;
+    let mut q = 0;
+    while q < n {
+        let pieces = curve::copy(ws, from, o + q * size, levels);
+        from += 4 * pieces;
+        q += 1;
+    }
+}
+
+// The words that the n lists from o on take when they are packed.
+fn words_of(ws: &[u64], o: usize, n: usize, levels: u64) -> usize
+    requires { ⌜ Row (now ws) o n levels × (o + n * (4 * levels) ≤ 1048576) ⌝ }
+    ensures { λ r. ⌜ r ≤ 65536 ⌝ }
+{
+    let size = 4 * (levels as usize);
+    let mut sum = 0;
+    let mut q = 0;
+    while q < n {
+        let pieces = curve::count(ws, o + q * size, levels);
+        sum += 4 * pieces;
+        q += 1;
+    }
+    sum
+}
+
+// The least r with binomial(c + r, r) ≥ d: with c layers at hand, d steps can be walked back so that none is made more than r times.
+fn repeats(d: usize, c: usize) -> usize
+    requires { ⌜ (d ≤ 4096) × (c ≤ 4096) ⌝ }
+    ensures { λ r. ⌜ r ≤ d ⌝ }
+{
+    let mut r = 0;
+    let mut b = 1;
+    while r < d {
+        if d <= b {
+            return r;
+        }
+        r += 1;
+        b = b * (c + r) / r;
+    }
+    r
+}
+
+// x, or the nearest number from 1 to d.
+fn clamp(x: usize, d: usize) -> usize
+    requires { ⌜ 0 < d ⌝ }
+    ensures { λ r. ⌜ (0 < r) × (r ≤ d) ⌝ }
+{
+    if x == 0 {
+        return 1;
+    }
+    if x < d { x } else { d }
+}
+
+// Where to save next on the way from a to t, with room for c layers: t where there is none.
+fn next_save(a: usize, t: usize, c: usize) -> usize
+    requires { ⌜ (a < t) × ((t ≤ 4096) × (c ≤ 96)) ⌝ }
+    ensures { λ r. ⌜ (a < r) × (r ≤ t) ⌝ }
+{
+    if c == 0 {
+        return t;
+    }
+    let d = t - a;
+    let r = repeats(d, c + 1);
+    let x = d * r / (c + 1 + r);
+    a + clamp(x, d)
+}
+
+// How many layers of about these words there is room for: at most the slots. Later layers are taken as a quarter larger.
+fn free_slots(words: usize, free: usize, slots: usize) -> usize
+    requires { ⌜ (words ≤ 65536) × (slots ≤ 96) ⌝ }
+    ensures { λ r. ⌜ r ≤ 96 ⌝ }
+{
+    let fit = free / (words * 5 / 4 + 1);
+    if fit < slots { fit } else { slots }
+}
+
+// How far to go before the next layer is saved.
+fn next_stop(ws: &[u64], g: Shape, walk: Walk, t: usize) -> usize
+    requires { ⌜ Stops g walk t (now ws) ⌝ }
+    ensures { λ r. ⌜ (walk .time < r) × (r ≤ t) ⌝ }
+{
+    let saved = walk.saved;
+    let n = saved.count;
+    let off = saved.off;
+    let free = 48 * area(g) - off[n];
+    let words = words_of(ws, walk.cur, labels::COUNTS * g.states, g.levels);
+    let c = free_slots(words, free, SLOTS - n);
+    next_save(walk.time, t, c)
+}
+
+// No layer saved; the stack begins at first.
+fn empty(first: usize) -> Saved
+    ensures { λ r. ⌜ Empty first r ⌝ }
+{
+    Saved {
+        count: 0,
+        time: [0; SLOTS],
+        off: [first; SLOTS + 1],
+    }
+}
+
+// The layer after t readings, packed up to e, on top.
+fn push(saved: Saved, t: usize, e: usize) -> Saved
+    requires { ⌜ (saved .count < 96) × ((length (saved .time) ≡ 96) × (length (saved .off) ≡ 97)) ⌝ }
+    ensures { λ r. ⌜ Pushed saved t e r ⌝ }
+{
+    let n = saved.count;
+    let mut next = saved;
+    next.time[n] = t;
+    next.off[n + 1] = e;
+    next.count = n + 1;
+    next
+}
+
+// Without the entries later than t on top.
+fn drop_after(saved: Saved, t: usize) -> Saved
+    requires { ⌜ saved .count ≤ 96 ⌝ }
+    ensures { λ r. ⌜ Dropped saved t r ⌝ }
+{
+    let time = saved.time;
+    let mut next = saved;
+    let mut n = saved.count;
+    while 0 < n {
+        if time[n - 1] <= t {
+            next.count = n;
+            return next;
+        }
+        n -= 1;
+    }
+    next.count = 0;
+    next
+}
+
+// From the top saved layer, or from the first reading where none is saved.
+fn restart(
+    ws: &mut [u64],
+    plan: Plan,
+    readings: &[i16],
+    g: Shape,
+    cur: usize,
+    other: usize,
+    saved: Saved,
+) -> Walk
+    requires { ⌜ Workspace plan (now readings) g (now ws) × (Places plan cur other × Stack plan (now readings) saved (now ws)) ⌝ }
+    ensures { λ r. ⌜ Restarted plan (now (readings .entry)) saved (now (ws .entry)) (now (ws .exit)) r ⌝ }
+{
+    let n = saved.count;
+    if n == 0 {
+        let free = 16 * area(g);
+        layers::first_layer(ws, plan, readings, cur, free, g);
+        return Walk {
+            time: 1,
+            cur,
+            other,
+            saved,
+        };
+    }
+    let times = saved.time;
+    let off = saved.off;
+    let time = times[n - 1];
+    let at = off[n - 1];
+    unpack(ws, at, cur, labels::COUNTS * g.states, g.levels);
+    Walk {
+        time,
+        cur,
+        other,
+        saved,
+    }
+}
+
+// Forward to x, with nothing saved on the way.
+fn forward(ws: &mut [u64], plan: Plan, readings: &[i16], g: Shape, walk: Walk, x: usize) -> Walk
+    requires { ⌜ Goes plan (now readings) g walk x (now ws) ⌝ }
+    ensures { λ r. ⌜ Walked plan (now (readings .entry)) x (now (ws .entry)) (now (ws .exit)) r ⌝ }
+{
+    let free = 16 * area(g);
+    let saved = walk.saved;
+    let mut time = walk.time;
+    let mut cur = walk.cur;
+    let mut other = walk.other;
+    while time < x {
+        layers::next_layer(ws, plan, readings, time, cur, other, free, g);
+        let last = cur;
+        cur = other;
+        other = last;
+        time += 1;
+    }
+    Walk {
+        time,
+        cur,
+        other,
+        saved,
+    }
+}
+
+// Forward to x, where the layer is saved if it is not the last on the way to t and there is room.
+fn go_on(
+    ws: &mut [u64],
+    plan: Plan,
+    readings: &[i16],
+    g: Shape,
+    walk: Walk,
+    x: usize,
+    t: usize,
+) -> Walk
+    requires { ⌜ Goes plan (now readings) g walk x (now ws) ⌝ }
+    ensures { λ r. ⌜ Walked plan (now (readings .entry)) x (now (ws .entry)) (now (ws .exit)) r ⌝ }
+{
+    let w = forward(ws, plan, readings, g, walk, x);
+    if t <= x {
+        return w;
+    }
+    let saved = w.saved;
+    let n = saved.count;
+    if SLOTS <= n {
+        return w;
+    }
+    let off = saved.off;
+    let at = off[n];
+    let limit = 48 * area(g);
+    let room = pack(ws, w.cur, at, limit, labels::COUNTS * g.states, g.levels);
+    match room {
+        Room::Full => w,
+        Room::Upto(e) => {
+            let more = push(saved, w.time, e);
+            Walk {
+                time: w.time,
+                cur: w.cur,
+                other: w.other,
+                saved: more,
+            }
+        }
+    }
+}
+
+// Forward to t, with layers saved on the way.
+pub fn advance(ws: &mut [u64], plan: Plan, readings: &[i16], g: Shape, walk: Walk, t: usize) -> Walk
+    requires { ⌜ Goes plan (now readings) g walk t (now ws) ⌝ }
+    ensures { λ r. ⌜ Walked plan (now (readings .entry)) t (now (ws .entry)) (now (ws .exit)) r ⌝ }
+{
+    let mut w = walk;
+    while w.time < t {
+        let x = next_stop(ws, g, w, t);
+        w = go_on(ws, plan, readings, g, w, x, t);
+    }
+    w
+}
+
+// The layer after the first reading, with nothing saved.
+pub fn begin(ws: &mut [u64], plan: Plan, readings: &[i16], g: Shape) -> Walk
+    requires { ⌜ Workspace plan (now readings) g (now ws) ⌝ }
+    ensures { λ r. ⌜ Walked plan (now (readings .entry)) 1 (now (ws .entry)) (now (ws .exit)) r ⌝ }
+{
+    let a = area(g);
+    let saved = empty(16 * a + 12 * (g.levels as usize));
+    restart(ws, plan, readings, g, 0, 8 * a, saved)
+}
+
+// Back to t: from the last layer saved that is not later, and forward again.
+pub fn rewind(ws: &mut [u64], plan: Plan, readings: &[i16], g: Shape, walk: Walk, t: usize) -> Walk
+    requires { ⌜ Workspace plan (now readings) g (now ws) × (At plan (now readings) walk (now ws) × ((1 ≤ t) × (t ≤ walk .time))) ⌝ }
+    ensures { λ r. ⌜ Walked plan (now (readings .entry)) t (now (ws .entry)) (now (ws .exit)) r ⌝ }
+{
+    let saved = walk.saved;
+    let kept = drop_after(saved, t);
+    let w = restart(ws, plan, readings, g, walk.cur, walk.other, kept);
+    advance(ws, plan, readings, g, w, t)
+}
