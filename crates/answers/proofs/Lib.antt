@@ -2,3 +2,7 @@
 pub mod Walk
 pub mod Stored
 pub mod Cases
+pub mod Back
+pub mod Again
+pub mod Prefix
+mod Examples

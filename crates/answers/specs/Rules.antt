@@ -64,7 +64,7 @@ level-fits (negsuc n) f = rw (le-ltb 32767 n (omega (arith, f .sfits)))
 
 -- a run that keeps the rules
 module _ (runs : List ℤ) (i : ℕ) (h : runOk runs i ≡ true) where
-  run-parts : (runFits (lastBefore runs i) (wholeAt runs i 0) (wholeAt runs i 1) (wholeAt runs i 2) (wholeAt runs i 4) ≡ true) × (levelFits (numberAt runs i 3) ≡ true)
+  pub run-parts : (runFits (lastBefore runs i) (wholeAt runs i 0) (wholeAt runs i 1) (wholeAt runs i 2) (wholeAt runs i 4) ≡ true) × (levelFits (numberAt runs i 3) ≡ true)
   unfolding runOk
   run-parts = both (runFits (lastBefore runs i) (wholeAt runs i 0) (wholeAt runs i 1) (wholeAt runs i 2) (wholeAt runs i 4)) _ h
 

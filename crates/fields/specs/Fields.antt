@@ -11,7 +11,7 @@ use Rattle.fields.specs.declared.Row.{Row}
 use Rattle.fields.specs.declared.Field.{Field}
 use Rattle.fields.specs.declared.Field.the-variants.{Body, Wrong}
 
-abbrev row : ℕ → ℕ → ℕ → ℕ → Row
+abbrev pub row : ℕ → ℕ → ℕ → ℕ → Row
 row first last next len = record { first = first; last = last; next = next; len = len }
 
 -- The table of tags: the stages of a file at which a tag may stand, from first to last, the stage after it, and the length of its body.

@@ -8,7 +8,7 @@ use mathlib.Core.Path.{_≡_, refl, sym, _∙_, ap, ap₂}
 use mathlib.Core.Bool.{Bool, true, false}
 use mathlib.Core.List.{List, [], _∷_, _++_, append-assoc}
 use lib.Dec.{ltb, leb, eqb, lit<}
-use lib.ListN.{length, getD, take, drop, length-append, length-take, length-drop}
+use lib.ListN.{length, getD, take, drop, length-append, length-take, length-drop, drop-of-length-le}
 use lib.Seq.{take-all, take-add, take-at, drop-at, drop-cons, getD-append-add, getD-take, take-length, length-take-le, drop-append-add, getD-drop}
 use borrow.Author.Tests.{lt-ltb, le-ltb, ltb-false, ltb-true, leb-true, leb-false, le-leb, lt-leb, eqb-true, eqb-false, eq-eqb, ne-eqb}
 use Rattle.integers.specs.Pick.{pick}
@@ -136,3 +136,18 @@ part-bytes s st l f = go (leb (st + l) (length s))
     go : (b : Bool) → AllBytes (pick b (take l (drop st s)) [])
     go true = take-bytes l (drop st s) (drop-bytes st s f)
     go false = λ i. lit< tt
+
+-- ---- a list of known length, spelled out
+
+-- n bytes of b from i on
+abbrev pub bytesAt : List ℕ → ℕ → ℕ → List ℕ
+bytesAt b i zero = []
+bytesAt b i (suc n) = getD b i 0 ∷ bytesAt b (i + 1) n
+
+spell-from : (n i : ℕ) (b : List ℕ) → i + n ≡ length b → bytesAt b i n ≡ drop i b
+spell-from zero i b e = sym (drop-of-length-le b {i = i} (omega arith))
+spell-from (suc n) i b e =
+    ap (λ (l : List ℕ). getD b i 0 ∷ l) (spell-from n (i + 1) b (omega arith) ∙ ap (λ (k : ℕ). drop k b) (add-one i)) ∙ sym (drop-cons b i 0 (omega arith))
+
+pub spell : (n : ℕ) (b : List ℕ) → length b ≡ n → bytesAt b 0 n ≡ b
+spell n b e = spell-from n 0 b (omega arith)

@@ -1,11 +1,11 @@
 -- Which tags may stand at each stage, read off the table.
 -- Assumes nothing.
-use Prim.Native.Nat.{ℕ, _%_}
+use Prim.Native.Nat.{ℕ, _%_, _≤_}
 use native.Mathlib.Omega.{arith}
-use mathlib.Core.Path.{_≡_, refl, sym, _∙_, ap}
+use mathlib.Core.Path.{_≡_, refl, sym, _∙_, ap, subst}
 use mathlib.Core.Bool.{Bool, true, false}
 use mathlib.Core.Logic.{_⊎_, inl, inr}
-use lib.Dec.{eqb, leb}
+use lib.Dec.{eqb, leb, lit≤}
 use borrow.Author.Tests.{eqb-true}
 use Rattle.integers.specs.Pick.{pick}
 use Rattle.fields.specs.declared.Row.{Row}
@@ -96,3 +96,18 @@ has-length t k l e f h = go (eqb k 0x05) f (sym (ap (λ (x : ℕ). lengthFits x 
     go : (b : Bool) → b ≡ false → pick b (eqb (l % 2) 0) (eqb l (rowOf k .len)) ≡ true → l ≡ rowOf k .len
     go false q r = eqb-true l (rowOf k .len) r
     go true q r = clash q refl
+
+-- no body of fixed length is longer than 8 bytes
+short-at : (t k : ℕ) → rowOf k .len ≤ 8 → t ≡ k → rowOf t .len ≤ 8
+short-at t k h e = subst (λ (x : ℕ). rowOf x .len ≤ 8) (sym e) h
+
+pub row-short : (t : ℕ) → rowOf t .len ≤ 8
+unfolding rowOf
+row-short t =
+    row-cases t (short-at t 0x01 (lit≤ tt)) (short-at t 0x02 (lit≤ tt)) (short-at t 0x03 (lit≤ tt)) (short-at t 0x04 (lit≤ tt)) (short-at t 0x05 (lit≤ tt)) (short-at t 0x81 (lit≤ tt)) (short-at t 0x82 (lit≤ tt)) (short-at t 0x83 (lit≤ tt))
+    (λ e. subst (λ (r : Row). r .len ≤ 8) (sym e) (lit≤ tt))
+
+-- at the end of a file no tag may stand
+pub at-4 : (t : ℕ) → mayStand 4 t ≡ false
+unfolding mayStand rowOf
+at-4 t = row-cases t (ap (mayStand 4)) (ap (mayStand 4)) (ap (mayStand 4)) (ap (mayStand 4)) (ap (mayStand 4)) (ap (mayStand 4)) (ap (mayStand 4)) (ap (mayStand 4)) (ap (at 4))

@@ -4,7 +4,7 @@ ghost use Prim.Native.Nat.{_+_, _-_, _*_, _≤_, _<_};
 ghost use lib.ListN.{length, drop, take};
 ghost use mathlib.Core.List.{_++_};
 ghost use Rattle.integers.specs.Bytes.{word};
-ghost use Rattle.fields.specs.Fields.{rowOf, mayStand, lengthFits, countFits, fieldAt, fieldNumber, partOf, fieldBody, putAt, join, number8};
+ghost use Rattle.fields.specs.Fields.{row, rowOf, mayStand, lengthFits, countFits, fieldAt, fieldNumber, partOf, fieldBody, putAt, join, number8};
 
 // A row of the table of tags: the stages at which the tag may stand, the stage after it, the length of its body.
 pub struct Row {
@@ -26,20 +26,31 @@ pub enum Written {
     Refused(u8),
 }
 
+fn row_with(first: u8, last: u8, next: u8, len: usize) -> Row
+    ensures { λ r. ⌜ r ≡ row first last next len ⌝ }
+{
+    Row {
+        first: first,
+        last: last,
+        next: next,
+        len: len,
+    }
+}
+
 // The table of tags. A tag that has no row of its own stands nowhere.
 pub fn row_of(tag: u8) -> Row
     ensures { λ r. ⌜ r ≡ rowOf tag ⌝ }
 {
     match tag {
-        0x01 => Row { first: 0, last: 0, next: 1, len: 4 },
-        0x02 => Row { first: 1, last: 1, next: 2, len: 3 },
-        0x03 => Row { first: 2, last: 2, next: 2, len: 6 },
-        0x04 => Row { first: 2, last: 3, next: 3, len: 5 },
-        0x05 => Row { first: 2, last: 3, next: 4, len: 0 },
-        0x81 => Row { first: 5, last: 5, next: 6, len: 8 },
-        0x82 => Row { first: 6, last: 6, next: 6, len: 8 },
-        0x83 => Row { first: 5, last: 5, next: 4, len: 1 },
-        _ => Row { first: 1, last: 0, next: 4, len: 0 },
+        0x01 => row_with(0, 0, 1, 4),
+        0x02 => row_with(1, 1, 2, 3),
+        0x03 => row_with(2, 2, 2, 6),
+        0x04 => row_with(2, 3, 3, 5),
+        0x05 => row_with(2, 3, 4, 0),
+        0x81 => row_with(5, 5, 6, 8),
+        0x82 => row_with(6, 6, 6, 8),
+        0x83 => row_with(5, 5, 4, 1),
+        _ => row_with(1, 0, 4, 0),
     }
 }
 

@@ -23,7 +23,7 @@ use Rattle.plan.specs.declared.Answer.the-variants.{Done, Refused}
 use Rattle.plan.proofs.Steps.{open-done, open-refused}
 use Rattle.plan.proofs.Cases.{Passing, seal-cases, seal-kept, call-keeps, blank-passing}
 use Rattle.fields.specs.Fields.{rowOf, mayStand, lengthFits, countFits, fieldAt, fieldNumber, partOf, wordAt, field}
-use Rattle.fields.specs.Laws.{FieldRead, field-is, field-bytes, part-length, part-bytes}
+use Rattle.fields.specs.Laws.{FieldRead, field-is, field-bytes, part-length, part-bytes, spell}
 use Rattle.fields.specs.Tags.{at-0, at-1, at-2, at-3, has-length}
 use Rattle.fields.specs.Put.{written}
 use Rattle.fields.specs.declared.Field.{Field}
@@ -32,7 +32,7 @@ use Rattle.files.specs.declared.FileRead.{FileRead}
 use Rattle.files.specs.Reader.{refusedFile, gridNumber, levelAt, openBodies, edgeBody, labelBody, entryBody, noPlan, onAnswer, atEnd, finishFile, onField, entriesFrom, onOpened, onStates, onGrid, planFile, readingsPart}
 use Rattle.files.specs.Writer.{gridField, statesField, edgesBytes, labelsBytes, headBytes, planBytes, planLength, writeNumber, afterWriting}
 use Rattle.files.specs.Sizes.{plan-length}
-use Rattle.files.proofs.Spell.{spell, bytesAt, added-edge, added-label}
+use Rattle.files.proofs.Spell.{added-edge, added-label}
 
 -- what an accepted reading r of s gives: a sealed plan that calls could have built, 1 to 4,096 readings, and their file is s
 pub record Means (s : List ℕ) (r : FileRead) : Type 0 where
@@ -41,7 +41,7 @@ pub record Means (s : List ℕ) (r : FileRead) : Type 0 where
   pub sealed : r .plan .sealed ≡ true
   pub counts : countOk (length (readingsOf (partOf s (r .start) (r .len)))) ≡ true
 
-no-answer : {Q : Type 0} (n : ℕ) → Refused n ≡ Done → Q
+pub no-answer : {Q : Type 0} (n : ℕ) → Refused n ≡ Done → Q
 no-answer n h = let z : _≡_ {A = ℕ} 0 1 = cc in absurd (omega arith)
 
 not-refused : {Q : Type 0} (n : ℕ) → refusedFile n .answer ≡ Done → Q
@@ -75,8 +75,8 @@ module _ (s : List ℕ) (f : AllBytes s) (at stage t st l : ℕ) (r : FieldRead 
     unfolding planBytes headBytes
     end-back q = record {
       bytes =
-        ap₂ (λ (x y : List ℕ). x ++ field 5 y) (sym head) readings-bytes ∙ ap (λ (k : ℕ). take at s ++ field k (partOf s st l)) (sym e) ∙ sym (field-bytes s at stage f r) ∙
-        ap (λ (k : ℕ). take k s) q ∙ take-length s;
+          ap₂ (λ (x y : List ℕ). x ++ field 5 y) (sym head) readings-bytes ∙ ap (λ (k : ℕ). take at s ++ field k (partOf s st l)) (sym e) ∙ sym (field-bytes s at stage f r) ∙
+          ap (λ (k : ℕ). take k s) q ∙ take-length s;
       passes = seal-kept p ∙ ok .number;
       sealed = refl;
       counts = readings-count;
@@ -121,10 +121,10 @@ label-passing b p ok = go (eqb (length b) 5)
     go true = call-keeps p (label (wordAt b 0) (wordAt b 2) (getD b 4 0)) ok
     go false = ok
 
-abbrev Stage : ℕ → Type 0
+abbrev pub Stage : ℕ → Type 0
 Stage stage = (stage ≡ 2) ⊎ (stage ≡ 3)
 
-tags : (stage t : ℕ) → Stage stage → mayStand stage t ≡ true → (t ≡ 3) ⊎ ((t ≡ 4) ⊎ (t ≡ 5))
+pub tags : (stage t : ℕ) → Stage stage → mayStand stage t ≡ true → (t ≡ 3) ⊎ ((t ≡ 4) ⊎ (t ≡ 5))
 tags stage t (inl e) h = at-2 t (ap (λ (x : ℕ). mayStand x t) (sym e) ∙ h)
 tags stage t (inr e) h = inr (at-3 t (ap (λ (x : ℕ). mayStand x t) (sym e) ∙ h))
 
@@ -191,7 +191,7 @@ entries-back (suc k) s p at stage f w a = go (λ q to st′. entries-back k s q 
 
 -- ---- the grid and the states
 
-open-answer : (lo hi : ℤ) (s a b : ℕ) → openPlan lo hi s a b .answer ≡ Done → (openNumber lo hi s a b ≡ 0) × (openPlan lo hi s a b ≡ done (blank lo hi s a b))
+pub open-answer : (lo hi : ℤ) (s a b : ℕ) → openPlan lo hi s a b .answer ≡ Done → (openNumber lo hi s a b ≡ 0) × (openPlan lo hi s a b ≡ done (blank lo hi s a b))
 open-answer lo hi s a b h = go (eqb (openNumber lo hi s a b) 0) refl
   where
     go : (t : Bool) → eqb (openNumber lo hi s a b) 0 ≡ t → (openNumber lo hi s a b ≡ 0) × (openPlan lo hi s a b ≡ done (blank lo hi s a b))
@@ -217,9 +217,10 @@ module _ (g b : List ℕ) (fg : AllBytes g) where
           Passing (openPlan (levelAt g 0) (levelAt g 2) (getD b 0 0) (getD b 1 0) (getD b 2 0) .plan) × (headBytes (openPlan (levelAt g 0) (levelAt g 2) (getD b 0 0) (getD b 1 0) (getD b 2 0) .plan) ≡ field 1 g ++ field 2 b)
       opened h lg lb =
           let o = open-answer (levelAt g 0) (levelAt g 2) (getD b 0 0) (getD b 1 0) (getD b 2 0) h in
-          let head = gridField (levelAt g 0) (levelAt g 2) ++ statesField (getD b 0 0) (getD b 1 0) (getD b 2 0) in
-          (rw (o .1) (blank-passing (levelAt g 0) (levelAt g 2) (getD b 0 0) (getD b 1 0) (getD b 2 0) (o .0)),
-          ap (λ (x : Built). headBytes (x .plan)) (o .1) ∙ append-nil (head ++ []) ∙ append-nil head ∙ ap₂ (λ (x y : List ℕ). x ++ y) (grid-bytes lg) (states-bytes lb))
+          let head = gridField (levelAt g 0) (levelAt g 2) ++ statesField (getD b 0 0) (getD b 1 0) (getD b 2 0) in (
+            rw (o .1) (blank-passing (levelAt g 0) (levelAt g 2) (getD b 0 0) (getD b 1 0) (getD b 2 0) (o .0)),
+            ap (λ (x : Built). headBytes (x .plan)) (o .1) ∙ append-nil (head ++ []) ∙ append-nil head ∙ ap₂ (λ (x y : List ℕ). x ++ y) (grid-bytes lg) (states-bytes lb),
+          )
 
       go : (x : Bool) → eqb (length g) 4 ≡ x → (y : Bool) → eqb (length b) 3 ≡ y →
           pick x (pick y (openPlan (levelAt g 0) (levelAt g 2) (getD b 0 0) (getD b 1 0) (getD b 2 0)) (refusedAt noPlan 3)) (refusedAt noPlan 3) .answer ≡ Done →
@@ -247,7 +248,7 @@ file-back s f a = go (fieldAt s 0 0) refl a
         let g = partOf s st l in
         let b = partOf s st′ l′ in
         let head : take (st′ + l′) s ≡ field 1 g ++ field 2 b =
-                field-bytes s (st + l) 1 f r′ ∙ ap₂ (λ (x y : List ℕ). x ++ y) (field-bytes s 0 0 f r ∙ ap (λ (k : ℕ). field k g) (at-0 t (r .stands))) (ap (λ (k : ℕ). field k b) (at-1 t′ (r′ .stands))) in
+        field-bytes s (st + l) 1 f r′ ∙ ap₂ (λ (x y : List ℕ). x ++ y) (field-bytes s 0 0 f r ∙ ap (λ (k : ℕ). field k g) (at-0 t (r .stands))) (ap (λ (k : ℕ). field k b) (at-1 t′ (r′ .stands))) in
         by-answer (openBodies g b .answer) (entriesFrom (length s + 1) s (openBodies g b .plan) (st′ + l′) 2)
         (λ d. let o = opened-back g b (part-bytes s st l f) d in entries-back (length s + 1) s (openBodies g b .plan) (st′ + l′) 2 f (record { ok = o .0; head = head ∙ sym (o .1); stages = inl refl })) h
 

@@ -1,16 +1,15 @@
--- A list of known length, spelled out; the bytes of a plan with one entry more.
+-- The bytes of a plan with one entry more.
 -- Assumes nothing.
 use Prim.Native.Nat.{ℕ, zero, suc, _+_, _-_, _*_, _/_, _%_, _≤_, _<_}
 use native.Mathlib.Omega.{arith}
 use native.Mathlib.Numerals.{add-one}
-use native.Mathlib.Nat.{add-suc}
 use mathlib.Core.Path.{_≡_, refl, sym, _∙_, ap, ap₂}
 use mathlib.Core.Bool.{Bool, true, false}
 use mathlib.Core.List.{List, [], _∷_, _++_, append-assoc, append-nil}
 use mathlib.Core.Logic.{_⊎_, inl, inr, ⊎-elim}
 use lib.Dec.{eqb}
-use lib.ListN.{length, getD, set, drop, drop-of-length-le}
-use lib.Seq.{drop-cons, getD-set-same, getD-set-other}
+use lib.ListN.{length, getD, set}
+use lib.Seq.{getD-set-same, getD-set-other}
 use lib.IntN.{ℤ}
 use borrow.Author.Tests.{eqb-true, eqb-false, eq-eqb, ne-eqb}
 use Rattle.integers.specs.Pick.{pick}
@@ -27,21 +26,9 @@ use Rattle.plan.proofs.Steps.{step-room, label-room}
 use Rattle.plan.proofs.Kept.{step-read, edge-back}
 use Rattle.plan.proofs.Cases.{AddedEdge, edge-cases, AddedLabel, label-cases, Sized}
 use Rattle.fields.specs.Fields.{field, wordAt}
+use Rattle.fields.specs.Laws.{spell}
 use Rattle.files.specs.Reader.{edgeBody, labelBody}
 use Rattle.files.specs.Writer.{gridField, statesField, edgeField, labelField, edgesBytes, labelsBytes, headBytes}
-
--- n bytes of b from i on
-abbrev pub bytesAt : List ℕ → ℕ → ℕ → List ℕ
-bytesAt b i zero = []
-bytesAt b i (suc n) = getD b i 0 ∷ bytesAt b (i + 1) n
-
-spell-from : (n i : ℕ) (b : List ℕ) → i + n ≡ length b → bytesAt b i n ≡ drop i b
-spell-from zero i b e = sym (drop-of-length-le b {i = i} (omega arith))
-spell-from (suc n) i b e =
-    ap (λ (l : List ℕ). getD b i 0 ∷ l) (spell-from n (i + 1) b (omega arith) ∙ ap (λ (k : ℕ). drop k b) (add-one i)) ∙ sym (drop-cons b i 0 (omega arith))
-
-pub spell : (n : ℕ) (b : List ℕ) → length b ≡ n → bytesAt b 0 n ≡ b
-spell n b e = spell-from n 0 b (omega arith)
 
 -- bytes of entries before n do not see a store at n
 edges-keep : (es : List Edge) (e : Edge) (m n : ℕ) → n ≤ m → edgesBytes (set es m e) n ≡ edgesBytes es n
@@ -62,7 +49,7 @@ head-edge p e z h =
     let g = gridField (p .lo) (p .hi) ++ statesField (p .states) (p .start) (p .end) in
     let a : labelsBytes (p .labels) (p .labelcount) ≡ [] = ap (labelsBytes (p .labels)) z in
     let b : edgesBytes (set (p .edges) n e) (n + 1) ≡ edgesBytes (p .edges) n ++ edgeField e =
-            ap (edgesBytes (set (p .edges) n e)) (add-one n) ∙ ap₂ (λ (l : List ℕ) (x : Edge). l ++ edgeField x) (edges-keep (p .edges) e n n (omega arith)) (getD-set-same (p .edges) n e noEdge h) in
+    ap (edgesBytes (set (p .edges) n e)) (add-one n) ∙ ap₂ (λ (l : List ℕ) (x : Edge). l ++ edgeField x) (edges-keep (p .edges) e n n (omega arith)) (getD-set-same (p .edges) n e noEdge h) in
     ap₂ (λ (x y : List ℕ). g ++ x ++ y) b a ∙ append-nil (g ++ (edgesBytes (p .edges) n ++ edgeField e)) ∙ sym (append-assoc g (edgesBytes (p .edges) n) (edgeField e)) ∙
     ap (λ (x : List ℕ). x ++ edgeField e) (sym (append-nil (g ++ edgesBytes (p .edges) n)) ∙ ap (λ (x : List ℕ). g ++ edgesBytes (p .edges) n ++ x) (sym a))
 
@@ -72,7 +59,7 @@ head-label p l h =
     let n = p .labelcount in
     let g = gridField (p .lo) (p .hi) ++ statesField (p .states) (p .start) (p .end) ++ edgesBytes (p .edges) (p .edgecount) in
     let b : labelsBytes (set (p .labels) n l) (n + 1) ≡ labelsBytes (p .labels) n ++ labelField l =
-            ap (labelsBytes (set (p .labels) n l)) (add-one n) ∙ ap₂ (λ (x : List ℕ) (y : Label). x ++ labelField y) (labels-keep (p .labels) l n n (omega arith)) (getD-set-same (p .labels) n l noLabel h) in
+    ap (labelsBytes (set (p .labels) n l)) (add-one n) ∙ ap₂ (λ (x : List ℕ) (y : Label). x ++ labelField y) (labels-keep (p .labels) l n n (omega arith)) (getD-set-same (p .labels) n l noLabel h) in
     ap (λ (x : List ℕ). g ++ x) b ∙ sym (append-assoc g (labelsBytes (p .labels) n) (labelField l))
 
 no-answer : {Q : Type 0} (n : ℕ) → Refused n ≡ Done → Q

@@ -66,9 +66,10 @@ limit f m n h e = go (leb n m) refl
 pub counts-small : (p : Plan) → planNumber p ≡ 0 → (p .edgecount ≤ 32) × (p .labelcount ≤ 64)
 unfolding edgesNumber labelsNumber
 counts-small p h =
-    let a = parts p h in
-    (limit _ 32 (p .edgecount) (λ z. omega (arith, sym (entry-full (p .states) (p .edges) 32 (getD (p .edges) 32 noEdge) (omega arith)) ∙ z)) (a .edges),
-    limit _ 64 (p .labelcount) (λ z. omega (arith, sym (label-full (p .labels) 64 (getD (p .labels) 64 noLabel) (omega arith)) ∙ z)) (a .labels))
+    let a = parts p h in (
+      limit _ 32 (p .edgecount) (λ z. omega (arith, sym (entry-full (p .states) (p .edges) 32 (getD (p .edges) 32 noEdge) (omega arith)) ∙ z)) (a .edges),
+      limit _ 64 (p .labelcount) (λ z. omega (arith, sym (label-full (p .labels) 64 (getD (p .labels) 64 noLabel) (omega arith)) ∙ z)) (a .labels),
+    )
 
 -- what a writer that is not refused has found
 pub record Writes (p : Plan) (n room : ℕ) : Type 0 where

@@ -1,43 +1,32 @@
-use native.Mathlib.Omega.{arith}
-use mathlib.Core.Path.{_≡_, sym}
+-- `answers::answer_number` meets its contract. Assumes nothing.
+use mathlib.Core.Path.{sym}
 use borrow.Author.Tests.{not-true, not-false}
 use Rattle.answers.proofs.Cases.{no-runs, odd-count, rules-broken, no-room, writes}
 use borrow.Author.Needs.{needs}
 use Rattle.answers.proofs.answer_number.Statement.{statement}
 use Rattle.answers.proofs.answer_number.Tie as tie
-use Rattle.answers.proofs.answer_number.Reads as reads
-use Rattle.answers.proofs.answer_number.Lts as lts
-use Rattle.answers.proofs.runs_ok.Reads as runs-ok-reads
 
--- src/lib.rt:256:9
 returns : tie.Need-returns
 returns c = sym (no-runs _ _ (c .if1 .taken))
 
--- src/lib.rt:259:9
 returns-2 : tie.Need-returns-2
 returns-2 c = sym (odd-count _ _ (c .before .if1 .left) (c .if2 .taken))
 
--- src/lib.rt:262:9
 runs-ok-requires : tie.Need-runs-ok-requires
 runs-ok-requires c κs = search needs
 
--- src/lib.rt:263:9
 returns-3 : tie.Need-returns-3
 returns-3 c = sym (rules-broken _ _ (c .before .before .before .if1 .left) (c .before .before .if2 .left) _ (c .before .runs-ok .ensures) (not-true _ (c .if3 .taken)))
 
--- src/lib.rt:265:20
 mul-if4 : tie.Need-mul-if4
 mul-if4 c = search needs
 
--- src/lib.rt:265:15
 add-if4 : tie.Need-add-if4
 add-if4 c = search needs
 
--- src/lib.rt:266:9
 returns-4 : tie.Need-returns-4
 returns-4 c = sym (no-room _ _ (c .before .before .before .before .if1 .left) (c .before .before .before .if2 .left) _ (c .before .before .runs-ok .ensures) (not-false _ (c .before .if3 .left)) (c .if4 .taken))
 
--- src/lib.rt:251:1
 returns-5 : tie.Need-returns-5
 returns-5 c = sym (writes _ _ (c .before .before .before .before .if1 .left) (c .before .before .before .if2 .left) _ (c .before .before .runs-ok .ensures) (not-false _ (c .before .if3 .left)) (c .if4 .left))
 

@@ -1,18 +1,13 @@
-use native.Mathlib.Omega.{arith}
+-- `answers::is_refusal` meets its contract. Assumes nothing.
 use borrow.Author.Tests.{eq-eqb, ne-eqb}
 use Rattle.answers.specs.Runs.{isRefusal}
-use borrow.Author.Needs.{needs}
 use Rattle.answers.proofs.is_refusal.Statement.{statement}
 use Rattle.answers.proofs.is_refusal.Tie as tie
-use Rattle.answers.proofs.is_refusal.Reads as reads
-use Rattle.answers.proofs.is_refusal.Lts as lts
 
--- src/lib.rt:27:9
 returns : tie.Need-returns
 unfolding isRefusal
 returns c = rw (eq-eqb _ _ (c .if1 .taken))
 
--- src/lib.rt:23:1
 returns-2 : tie.Need-returns-2
 unfolding isRefusal
 returns-2 c = rw (ne-eqb _ _ (c .if1 .left))

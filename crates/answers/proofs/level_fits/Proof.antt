@@ -1,18 +1,13 @@
-use native.Mathlib.Omega.{arith}
+-- `answers::level_fits` meets its contract. Assumes nothing.
 use mir.Syntax.{w32}
 use mir.ValLaws.{toZ-ofZ}
 use Rattle.answers.proofs.Cases.{level-low, level-rest}
-use borrow.Author.Needs.{needs}
 use Rattle.answers.proofs.level_fits.Statement.{statement}
 use Rattle.answers.proofs.level_fits.Tie as tie
-use Rattle.answers.proofs.level_fits.Reads as reads
-use Rattle.answers.proofs.level_fits.Lts as lts
 
--- src/lib.rt:212:9
 returns : tie.Need-returns
 returns c = level-low (c .before .args .x) (rw (toZ-ofZ w32 (c .before .args .x) (c .before .fits .x)) at (c .if1 .taken))
 
--- src/lib.rt:208:1
 returns-2 : tie.Need-returns-2
 returns-2 c = rw (toZ-ofZ w32 (c .before .args .x) (c .before .fits .x)) (level-rest (c .before .args .x) (rw (toZ-ofZ w32 (c .before .args .x) (c .before .fits .x)) at (c .if1 .left)))
 

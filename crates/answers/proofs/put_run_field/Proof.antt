@@ -1,6 +1,6 @@
+-- `answers::put_run_field` meets its contract. Assumes nothing.
 use native.Mathlib.Omega.{arith}
-use lib.IntN.{ℤ}
-use mir.Val.{SFits, toZ, ofZ}
+use mir.Val.{toZ, ofZ}
 use mir.Syntax.{w16, w32}
 use mir.ValLaws.{toZ-ofZ}
 use mathlib.Core.Path.{_≡_, sym, _∙_, ap}
@@ -8,162 +8,120 @@ use Rattle.integers.specs.Bytes.{bits16}
 use Rattle.answers.specs.Rules.{run-small, run-level}
 use Rattle.answers.specs.Runs.{whole, numberAt, wholeAt}
 use Rattle.answers.proofs.Cases.{first-number}
-use Prim.Native.Nat.{ℕ, _/_, _%_}
+use Prim.Native.Nat.{_/_, _%_}
 use borrow.Author.Needs.{needs}
 use Rattle.answers.proofs.put_run_field.Statement.{statement}
 use Rattle.answers.proofs.put_run_field.Tie as tie
-use Rattle.answers.proofs.put_run_field.Reads as reads
-use Rattle.answers.proofs.put_run_field.Lts as lts
-use Rattle.answers.proofs.whole.Reads as whole-reads
-use Rattle.fields.proofs.put.Reads as put-reads
-use Rattle.integers.proofs.high16.Reads as high16-reads
-use Rattle.integers.proofs.low16.Reads as low16-reads
 
--- src/lib.rt:301:28
 mul-whole : tie.Need-mul-whole
 mul-whole c = search needs
 
--- src/lib.rt:301:23
 mul-whole-2 : tie.Need-mul-whole-2
 mul-whole-2 c = search needs
 
--- src/lib.rt:301:23
 shared-slice-copy-out-whole : tie.Need-shared-slice-copy-out-whole
 shared-slice-copy-out-whole c = search needs
 
--- src/lib.rt:301:9
 whole-requires : tie.Need-whole-requires
 whole-requires c κs = search needs
 
--- src/lib.rt:302:27
 mul-whole-3 : tie.Need-mul-whole-3
 mul-whole-3 c = search needs
 
--- src/lib.rt:302:27
 add-whole : tie.Need-add-whole
 add-whole c = search needs
 
--- src/lib.rt:302:22
 mul-whole-4 : tie.Need-mul-whole-4
 mul-whole-4 c = search needs
 
--- src/lib.rt:302:22
 shared-slice-copy-out-whole-2 : tie.Need-shared-slice-copy-out-whole-2
 shared-slice-copy-out-whole-2 c = search needs
 
--- src/lib.rt:302:9
 whole-requires-2 : tie.Need-whole-requires-2
 whole-requires-2 c κs = search needs
 
--- src/lib.rt:303:28
 mul-whole-5 : tie.Need-mul-whole-5
 mul-whole-5 c = search needs
 
--- src/lib.rt:303:28
 add-whole-2 : tie.Need-add-whole-2
 add-whole-2 c = search needs
 
--- src/lib.rt:303:23
 mul-whole-6 : tie.Need-mul-whole-6
 mul-whole-6 c = search needs
 
--- src/lib.rt:303:23
 shared-slice-copy-out-whole-3 : tie.Need-shared-slice-copy-out-whole-3
 shared-slice-copy-out-whole-3 c = search needs
 
--- src/lib.rt:303:9
 whole-requires-3 : tie.Need-whole-requires-3
 whole-requires-3 c κs = search needs
 
--- src/lib.rt:304:22
 mul-level : tie.Need-mul-level
 mul-level c = search needs
 
--- src/lib.rt:304:22
 add-level : tie.Need-add-level
 add-level c = search needs
 
--- src/lib.rt:304:17
 mul-level-2 : tie.Need-mul-level-2
 mul-level-2 c = search needs
 
--- src/lib.rt:304:17
 shared-slice-copy-out-level : tie.Need-shared-slice-copy-out-level
 shared-slice-copy-out-level c = search needs
 
--- src/lib.rt:304:17
 cast-level : tie.Need-cast-level
 cast-level c = rw (toZ-ofZ w32 (numberAt (c .before .before .before .before .before .before .before .before .args .runs .now) (c .before .before .before .before .before .before .before .before .args .i) 3) (record { sfits = c .level .given })) (run-level (c .before .before .before .before .before .before .before .before .args .runs .now) (c .before .before .before .before .before .before .before .before .args .i) (c .before .before .before .before .before .before .before .before .pre .1))
 
--- src/lib.rt:305:27
 mul-whole-7 : tie.Need-mul-whole-7
 mul-whole-7 c = search needs
 
--- src/lib.rt:305:27
 add-whole-3 : tie.Need-add-whole-3
 add-whole-3 c = search needs
 
--- src/lib.rt:305:22
 mul-whole-8 : tie.Need-mul-whole-8
 mul-whole-8 c = search needs
 
--- src/lib.rt:305:22
 shared-slice-copy-out-whole-4 : tie.Need-shared-slice-copy-out-whole-4
 shared-slice-copy-out-whole-4 c = search needs
 
--- src/lib.rt:305:9
 whole-requires-4 : tie.Need-whole-requires-4
 whole-requires-4 c κs = search needs
 
--- src/lib.rt:310:9
 cast-t21 : tie.Need-cast-t21
 cast-t21 c = let k = run-small (c .before .before .before .before .before .before .before .before .before .before .args .runs .now) (c .before .before .before .before .before .before .before .before .before .before .args .i) (c .before .before .before .before .before .before .before .before .before .before .pre .1) in
     let e : c .before .before .before .before .before .before .before .whole .result ≡ wholeAt (c .before .before .before .before .before .before .before .before .before .before .args .runs .now) (c .before .before .before .before .before .before .before .before .before .before .args .i) 0 = (c .before .before .before .before .before .before .before .whole .ensures ∙ ap whole (toZ-ofZ w32 _ (record { sfits = c .before .before .before .before .before .before .before .before .whole-arg .given }) ∙ sym (first-number (c .before .before .before .before .before .before .before .before .before .before .args .runs .now) (c .before .before .before .before .before .before .before .before .before .before .args .i)))) in omega (arith, k .0)
 
--- src/lib.rt:311:9
 cast-t23 : tie.Need-cast-t23
 cast-t23 c = search needs
 
--- src/lib.rt:312:9
 cast-t25 : tie.Need-cast-t25
 cast-t25 c = let k = run-small (c .before .before .before .before .before .before .before .before .before .before .args .runs .now) (c .before .before .before .before .before .before .before .before .before .before .args .i) (c .before .before .before .before .before .before .before .before .before .before .pre .1) in
     let e : c .before .before .before .before .before .whole2 .result ≡ wholeAt (c .before .before .before .before .before .before .before .before .before .before .args .runs .now) (c .before .before .before .before .before .before .before .before .before .before .args .i) 1 = (c .before .before .before .before .before .whole2 .ensures ∙ ap whole (toZ-ofZ w32 _ (record { sfits = c .before .before .before .before .before .before .whole-arg2 .given }))) in omega (arith, k .1)
 
--- src/lib.rt:313:9
 cast-t27 : tie.Need-cast-t27
 cast-t27 c = search needs
 
--- src/lib.rt:314:9
 cast-t28 : tie.Need-cast-t28
 cast-t28 c = let k = run-small (c .before .before .before .before .before .before .before .before .before .before .args .runs .now) (c .before .before .before .before .before .before .before .before .before .before .args .i) (c .before .before .before .before .before .before .before .before .before .before .pre .1) in
     let e : c .before .before .before .whole3 .result ≡ wholeAt (c .before .before .before .before .before .before .before .before .before .before .args .runs .now) (c .before .before .before .before .before .before .before .before .before .before .args .i) 2 = (c .before .before .before .whole3 .ensures ∙ ap whole (toZ-ofZ w32 _ (record { sfits = c .before .before .before .before .whole-arg3 .given }))) in omega (arith, k .2)
 
--- src/lib.rt:315:9
 high16-requires : tie.Need-high16-requires
 high16-requires c κs = search needs
 
--- src/lib.rt:316:9
 low16-requires : tie.Need-low16-requires
 low16-requires c κs = search needs
 
--- src/lib.rt:317:9
 cast-t31 : tie.Need-cast-t31
 cast-t31 c = let k = run-small (c .before .before .before .before .before .before .before .before .before .before .before .before .args .runs .now) (c .before .before .before .before .before .before .before .before .before .before .before .before .args .i) (c .before .before .before .before .before .before .before .before .before .before .before .before .pre .1) in
     let e : c .before .before .whole4 .result ≡ wholeAt (c .before .before .before .before .before .before .before .before .before .before .before .before .args .runs .now) (c .before .before .before .before .before .before .before .before .before .before .before .before .args .i) 4 = (c .before .before .whole4 .ensures ∙ ap whole (toZ-ofZ w32 _ (record { sfits = c .before .before .before .whole-arg4 .given }))) in omega (arith, k .3)
 
--- src/lib.rt:319:26
 slice-aggregate-put : tie.Need-slice-aggregate-put
 slice-aggregate-put c = search needs
 
--- src/lib.rt:319:5
 put-requires : tie.Need-put-requires
 put-requires c κs = search needs
 
--- src/lib.rt:297:1
 same-length : tie.Need-same-length
 same-length c = search needs
 
--- src/lib.rt:297:1
 returns : tie.Need-returns
 returns c = let e0 : c .before .before .before .before .before .before .before .before .before .before .before .before .before .before .whole .result ≡ wholeAt (c .before .before .before .before .before .before .before .before .before .before .before .before .before .before .before .before .before .args .runs .now) (c .before .before .before .before .before .before .before .before .before .before .before .before .before .before .before .before .before .args .i) 0 = (c .before .before .before .before .before .before .before .before .before .before .before .before .before .before .whole .ensures ∙ ap whole (toZ-ofZ w32 _ (record { sfits = c .before .before .before .before .before .before .before .before .before .before .before .before .before .before .before .whole-arg .given }) ∙ sym (first-number (c .before .before .before .before .before .before .before .before .before .before .before .before .before .before .before .before .before .args .runs .now) (c .before .before .before .before .before .before .before .before .before .before .before .before .before .before .before .before .before .args .i)))) in
     let e1 : c .before .before .before .before .before .before .before .before .before .before .before .before .whole2 .result ≡ wholeAt (c .before .before .before .before .before .before .before .before .before .before .before .before .before .before .before .before .before .args .runs .now) (c .before .before .before .before .before .before .before .before .before .before .before .before .before .before .before .before .before .args .i) 1 = (c .before .before .before .before .before .before .before .before .before .before .before .before .whole2 .ensures ∙ ap whole (toZ-ofZ w32 _ (record { sfits = c .before .before .before .before .before .before .before .before .before .before .before .before .before .whole-arg2 .given }))) in

@@ -1,48 +1,35 @@
-use native.Mathlib.Omega.{arith}
-use mathlib.Core.Path.{_≡_, sym, _∙_}
+-- `answers::read_answer` meets its contract. Assumes nothing.
+use mathlib.Core.Path.{sym, _∙_}
 use Rattle.answers.specs.Sizes.{file-long}
 use Rattle.answers.proofs.Walk.{read-is, filled-is}
 use borrow.Author.Needs.{needs}
 use Rattle.answers.proofs.read_answer.Statement.{statement}
 use Rattle.answers.proofs.read_answer.Tie as tie
-use Rattle.answers.proofs.read_answer.Reads as reads
-use Rattle.answers.proofs.read_answer.Lts as lts
-use Rattle.answers.proofs.read_file.Reads as read-file-reads
-use Rattle.answers.proofs.take_runs.Reads as take-runs-reads
 
--- src/lib.rt:190:9
 read-file-requires : tie.Need-read-file-requires
 read-file-requires c κs = search needs
 
--- src/lib.rt:192:28
 enum-known-found : tie.Need-enum-known-found
 enum-known-found c = search needs
 
--- src/lib.rt:192:45
 take-runs-requires : tie.Need-take-runs-requires
 take-runs-requires c κs = file-long _ _ _ (sym (c .before .before .before .before .read-file .ensures) ∙ c .before .before .found .given .1)
 
--- src/lib.rt:193:29
 enum-known-found-2 : tie.Need-enum-known-found-2
 enum-known-found-2 c = search needs
 
--- src/lib.rt:194:28
 enum-known-found-3 : tie.Need-enum-known-found-3
 enum-known-found-3 c = search needs
 
--- src/lib.rt:186:1
 same-length : tie.Need-same-length
 same-length c = search needs
 
--- src/lib.rt:186:1
 returns : tie.Need-returns
 returns c = (c .before .take-runs .ensures .0 ∙ read-is _ (c .before .before .before .before .before .before .before .before .args .runs .now) _ (sym (c .before .before .before .before .before .before .read-file .ensures) ∙ c .before .before .before .before .found .given .1), c .before .take-runs .ensures .1 ∙ filled-is _ (c .before .before .before .before .before .before .before .before .args .runs .now) _ (sym (c .before .before .before .before .before .before .read-file .ensures) ∙ c .before .before .before .before .found .given .1))
 
--- src/lib.rt:186:1
 returns-2 : tie.Need-returns-2
 returns-2 c = (read-is _ (c .before .before .before .before .before .args .runs .now) _ (sym (c .before .before .before .read-file .ensures) ∙ c .before .found2 .given .1), filled-is _ (c .before .before .before .before .before .args .runs .now) _ (sym (c .before .before .before .read-file .ensures) ∙ c .before .found2 .given .1))
 
--- src/lib.rt:186:1
 returns-3 : tie.Need-returns-3
 returns-3 c = (read-is _ (c .before .before .before .before .before .args .runs .now) _ (sym (c .before .before .before .read-file .ensures) ∙ c .before .found3 .given .1), filled-is _ (c .before .before .before .before .before .args .runs .now) _ (sym (c .before .before .before .read-file .ensures) ∙ c .before .found3 .given .1))
 

@@ -1,5 +1,5 @@
-use native.Mathlib.Omega.{arith}
-use mathlib.Core.Path.{_≡_, sym, _∙_, ap}
+-- `answers::read_refusal` meets its contract. Assumes nothing.
+use mathlib.Core.Path.{_∙_, ap}
 use borrow.Author.Tests.{not-true, not-false}
 use Rattle.fields.specs.Fields.{fieldNumber}
 use Rattle.answers.specs.declared.AnswerRead.the-variants.{Unread}
@@ -7,41 +7,28 @@ use Rattle.answers.proofs.Walk.{wrong-length, no-refusal, refusal-ends,
 use borrow.Author.Needs.{needs}
 use Rattle.answers.proofs.read_refusal.Statement.{statement}
 use Rattle.answers.proofs.read_refusal.Tie as tie
-use Rattle.answers.proofs.read_refusal.Reads as reads
-use Rattle.answers.proofs.read_refusal.Lts as lts
-use Rattle.answers.proofs.is_refusal.Reads as is-refusal-reads
-use Rattle.fields.proofs.field_number.Reads as field-number-reads
-use Rattle.fields.proofs.read_field.Reads as read-field-reads
 
--- src/lib.rt:112:9
 returns : tie.Need-returns
 returns c = wrong-length _ _ _ (c .if1 .taken)
 
--- src/lib.rt:114:13
 shared-slice-read-n : tie.Need-shared-slice-read-n
 shared-slice-read-n c = search needs
 
--- src/lib.rt:115:9
 is-refusal-requires : tie.Need-is-refusal-requires
 is-refusal-requires c κs = search needs
 
--- src/lib.rt:116:9
 returns-2 : tie.Need-returns-2
 returns-2 c = no-refusal _ _ _ (c .before .before .before .if1 .left) _ (c .before .is-refusal .ensures) (not-true _ (c .if2 .taken))
 
--- src/lib.rt:119:9
 returns-3 : tie.Need-returns-3
 returns-3 c = refusal-ends _ _ _ (c .before .before .before .before .if1 .left) _ (c .before .before .is-refusal .ensures) (not-false _ (c .before .if2 .left)) (c .if3 .taken)
 
--- src/lib.rt:121:45
 read-field-requires : tie.Need-read-field-requires
 read-field-requires c κs = search needs
 
--- src/lib.rt:121:24
 field-number-requires : tie.Need-field-number-requires
 field-number-requires c κs = search needs
 
--- src/lib.rt:108:1
 returns-4 : tie.Need-returns-4
 returns-4 c = ap Unread (c .field-number .ensures ∙ ap fieldNumber (c .before .read-field .ensures)) ∙ refusal-not-last _ _ _ (c .before .before .before .before .before .before .if1 .left) _ (c .before .before .before .before .is-refusal .ensures) (not-false _ (c .before .before .before .if2 .left)) (c .before .before .if3 .left)
 

@@ -1,9 +1,10 @@
+-- `answers::read_runs` meets its contract. Assumes nothing.
 use native.Mathlib.Omega.{arith}
 use Rattle.answers.proofs.Walk.{run-wrong, run-breaks, run-last, run-on}
 use Rattle.answers.specs.Reader.{bodyFits, bodyLast, runsFrom}
 use Rattle.answers.specs.declared.AnswerRead.the-variants.{Unread}
 use Rattle.fields.specs.Fields.{fieldNumber}
-use Rattle.fields.specs.Laws.{FieldRead, field-is}
+use Rattle.fields.specs.Laws.{field-is}
 use borrow.Author.Tests.{not-true, not-false}
 use mathlib.Core.Path.{_≡_, refl, sym, _∙_, ap}
 use lib.ListN.{length}
@@ -11,13 +12,6 @@ use Prim.Native.Nat.{ℕ, _≤_, _<_, _-_, _+_}
 use borrow.Author.Needs.{needs}
 use Rattle.answers.proofs.read_runs.Statement.{statement}
 use Rattle.answers.proofs.read_runs.Tie as tie
-use Rattle.answers.proofs.read_runs.Reads as reads
-use Rattle.answers.proofs.read_runs.Lts as lts
-use Rattle.answers.proofs.body_fits.Reads as body-fits-reads
-use Rattle.answers.proofs.body_last.Reads as body-last-reads
-use Rattle.fields.proofs.field_body.Reads as field-body-reads
-use Rattle.fields.proofs.field_number.Reads as field-number-reads
-use Rattle.fields.proofs.read_field.Reads as read-field-reads
 
 abbrev Inv-loop : tie.InvT-loop
 Inv-loop s cost at i₀ prev₀ count₀ i prev count = (i ≤ length s) × (count ≤ i) × ((k : ℕ) × (length s - i < k) × (runsFrom k s cost i prev count ≡ runsFrom (length s + 1) s cost i₀ prev₀ count₀))
@@ -25,63 +19,48 @@ Inv-loop s cost at i₀ prev₀ count₀ i prev count = (i ≤ length s) × (cou
 abbrev μ-loop : tie.MeasureT-loop
 μ-loop s cost at i₀ prev₀ count₀ i prev count = length s - i
 
--- src/lib.rt:87:5
 loop-holds : tie.Need-loop-holds Inv-loop μ-loop
 loop-holds c = (c .before .pre, omega arith, (length (c .before .args .s .now) + 1, omega arith, refl))
 
--- src/lib.rt:88:13
 read-field-requires : tie.Need-read-field-requires Inv-loop μ-loop
 read-field-requires c κs = search needs
 
--- src/lib.rt:89:35
 enum-known-f : tie.Need-enum-known-f Inv-loop μ-loop
 enum-known-f c = omega arith
 
--- src/lib.rt:90:39
 enum-told : tie.Need-enum-told Inv-loop μ-loop
 enum-told c = omega arith
 
--- src/lib.rt:90:39
 field-number-requires : tie.Need-field-number-requires Inv-loop μ-loop
 field-number-requires c κs = search needs
 
--- src/lib.rt:90:13
 returns : tie.Need-returns Inv-loop μ-loop
 returns c = ap Unread (c .field-number .ensures ∙ ap fieldNumber (c .before .enum-told .given .1)) ∙ sym (run-wrong _ _ _ _ _ _ _ (omega (arith, c .before .before .before .before .loop .inv .2 .1)) (sym (c .before .before .before .read-field .ensures) ∙ c .before .enum-told .given .1)) ∙ c .before .before .before .before .loop .inv .2 .2
 
--- src/lib.rt:92:13
 field-body-requires : tie.Need-field-body-requires Inv-loop μ-loop
 field-body-requires c κs = search needs
 
--- src/lib.rt:93:13
 body-fits-requires : tie.Need-body-fits-requires Inv-loop μ-loop
 body-fits-requires c κs = search needs
 
--- src/lib.rt:94:13
 returns-2 : tie.Need-returns-2 Inv-loop μ-loop
 returns-2 c = sym (run-breaks _ _ _ _ _ _ _ _ (sym (c .before .before .before .before .before .before .read-field .ensures) ∙ c .before .before .before .before .f .given .1) _ (c .before .body-fits .ensures ∙ ap (bodyFits (c .before .before .before .before .before .before .before .loop .prev)) (c .before .before .field-body .ensures)) _ (omega (arith, c .before .before .before .before .before .before .before .loop .inv .2 .1)) (not-true _ (c .if1 .taken))) ∙ c .before .before .before .before .before .before .before .loop .inv .2 .2
 
--- src/lib.rt:96:13
 add-i : tie.Need-add-i Inv-loop μ-loop
 add-i c = let h = field-is _ _ _ (sym (c .before .before .before .before .before .before .read-field .ensures) ∙ c .before .before .before .before .f .given .1) in omega (arith, h .whole, c .before .before .before .before .before .before .before .before .before .good)
 
--- src/lib.rt:97:9
 add-count : tie.Need-add-count Inv-loop μ-loop
 add-count c = let h = field-is _ _ _ (sym (c .before .before .before .before .before .before .read-field .ensures) ∙ c .before .before .before .before .f .given .1) in omega (arith, h .whole, h .start, c .before .before .before .before .before .before .before .loop .inv .1, c .before .before .before .before .before .before .before .before .before .good)
 
--- src/lib.rt:99:13
 returns-3 : tie.Need-returns-3 Inv-loop μ-loop
 returns-3 c = sym (run-last _ _ _ _ _ _ _ _ (sym (c .before .before .before .before .before .before .before .read-field .ensures) ∙ c .before .before .before .before .before .f .given .1) _ (c .before .before .body-fits .ensures ∙ ap (bodyFits (c .before .before .before .before .before .before .before .before .loop .prev)) (c .before .before .before .field-body .ensures)) _ (omega (arith, c .before .before .before .before .before .before .before .before .loop .inv .2 .1)) (not-false _ (c .before .if1 .left)) (c .if2 .taken)) ∙ c .before .before .before .before .before .before .before .before .loop .inv .2 .2
 
--- src/lib.rt:104:9
 body-last-requires : tie.Need-body-last-requires Inv-loop μ-loop
 body-last-requires c κs = search needs
 
--- src/lib.rt:87:5
 loop-less : tie.Need-loop-less Inv-loop μ-loop
 loop-less c = let h = field-is _ _ _ (sym (c .before .before .before .before .before .before .before .before .read-field .ensures) ∙ c .before .before .before .before .before .before .f .given .1) in omega (arith, h .whole, h .start)
 
--- src/lib.rt:87:5
 loop-again : tie.Need-loop-again Inv-loop μ-loop
 loop-again c = let h = field-is _ _ _ (sym (c .before .before .before .before .before .before .before .before .read-field .ensures) ∙ c .before .before .before .before .before .before .f .given .1) in
     let fuel : 0 < c .before .before .before .before .before .before .before .before .before .loop .inv .2 .0 = omega (arith, c .before .before .before .before .before .before .before .before .before .loop .inv .2 .1) in

@@ -1,8 +1,9 @@
+-- `answers::write_answer` meets its contract. Assumes nothing.
 use Rattle.fields.specs.Put.{put-length}
 use Rattle.fields.specs.Fields.{field, bytes8}
 use native.Mathlib.Omega.{arith}
 use Rattle.answers.specs.Writer.{answerBytes}
-use Rattle.answers.specs.Lengths.{Writes, answer-room, answer-put, answer-length}
+use Rattle.answers.specs.Lengths.{answer-room, answer-put, answer-length}
 use Rattle.fields.specs.Put.{write-refused, write-done, put-front}
 use Prim.Native.Nat.{_/_, _*_, _+_}
 use lib.ListN.{length}
@@ -10,43 +11,30 @@ use mathlib.Core.Path.{_≡_, sym, _∙_, ap}
 use borrow.Author.Needs.{needs}
 use Rattle.answers.proofs.write_answer.Statement.{statement}
 use Rattle.answers.proofs.write_answer.Tie as tie
-use Rattle.answers.proofs.write_answer.Reads as reads
-use Rattle.answers.proofs.write_answer.Lts as lts
-use Rattle.answers.proofs.answer_number.Reads as answer-number-reads
-use Rattle.answers.proofs.put_cost.Reads as put-cost-reads
-use Rattle.answers.proofs.put_runs.Reads as put-runs-reads
 
--- src/lib.rt:338:9
 answer-number-requires : tie.Need-answer-number-requires
 answer-number-requires c κs = search needs
 
--- src/lib.rt:340:9
 returns : tie.Need-returns
 returns c = write-refused _ _ _ _ _ (sym (c .before .answer-number .ensures)) (c .if1 .taken)
 
--- src/lib.rt:343:5
 put-cost-requires : tie.Need-put-cost-requires
 put-cost-requires c κs = search needs
 
--- src/lib.rt:344:5
 put-runs-requires : tie.Need-put-runs-requires
 put-runs-requires c κs = let w = answer-room (c .before .before .before .before .before .before .before .before .args .runs .now) (length (c .before .before .before .before .before .before .before .before .args .out .now)) (sym (c .before .before .before .before .before .before .answer-number .ensures) ∙ c .before .before .before .before .before .if1 .left) in
     let l : length (c .before .before .before .put-cost .last .0) ≡ length (c .before .before .before .before .before .before .before .before .args .out .now) = ap length (c .before .before .before .put-cost .ensures) ∙ put-length (c .before .before .before .before .before .before .before .before .args .out .now) 0 (field 0x81 (bytes8 (c .before .before .before .before .before .before .before .before .args .cost))) in
     (omega arith, w .rules, omega (arith, w .fits))
 
--- src/lib.rt:345:25
 mul-t6 : tie.Need-mul-t6
 mul-t6 c = search needs
 
--- src/lib.rt:345:20
 add-t13 : tie.Need-add-t13
 add-t13 c = search needs
 
--- src/lib.rt:334:1
 same-length : tie.Need-same-length
 same-length c = search needs
 
--- src/lib.rt:334:1
 returns-2 : tie.Need-returns-2
 returns-2 c = let w = answer-room (c .before .before .before .before .before .before .before .before .before .before .before .args .runs .now) (length (c .before .before .before .before .before .before .before .before .before .before .before .args .out .now)) (sym (c .before .before .before .before .before .before .before .before .before .answer-number .ensures) ∙ c .before .before .before .before .before .before .before .before .if1 .left) in
     write-done _ (answerBytes (c .before .before .before .before .before .before .before .before .before .before .before .args .cost) (c .before .before .before .before .before .before .before .before .before .before .before .args .runs .now)) (c .before .before .before .before .before .before .before .before .before .before .before .args .out .now) _ (11 + 11 * (length (c .before .before .before .before .before .before .before .before .before .before .before .args .runs .now) / 5)) (sym (c .before .before .before .before .before .before .before .before .before .answer-number .ensures) ∙ c .before .before .before .before .before .before .before .before .if1 .left)

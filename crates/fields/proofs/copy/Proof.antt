@@ -1,16 +1,13 @@
+-- `fields::copy` meets its contract. Assumes nothing.
 use native.Mathlib.Omega.{arith}
 use native.Mathlib.Numerals.{add-one}
 use native.Mathlib.Nat.{le-antisymm}
-use mathlib.Core.List.{_++_}
-use mathlib.Core.Path.{_≡_, refl, sym, _∙_, ap}
+use mathlib.Core.Path.{_≡_, refl}
 use lib.Seq.{paste, paste-zero, paste-suc, take-length}
 use lib.ListN.{length, length-set}
-use Prim.Native.Nat.{_≤_, _-_, _+_}
-use borrow.Author.Needs.{needs}
+use Prim.Native.Nat.{_≤_, _-_}
 use Rattle.fields.proofs.copy.Statement.{statement}
 use Rattle.fields.proofs.copy.Tie as tie
-use Rattle.fields.proofs.copy.Reads as reads
-use Rattle.fields.proofs.copy.Lts as lts
 
 abbrev Inv-loop : tie.InvT-loop
 Inv-loop out₀ at bytes i₀ out i = (i ≤ length bytes) × (length out ≡ length out₀) × (out ≡ paste out₀ at bytes i)
@@ -18,40 +15,31 @@ Inv-loop out₀ at bytes i₀ out i = (i ≤ length bytes) × (length out ≡ le
 abbrev μ-loop : tie.MeasureT-loop
 μ-loop out₀ at bytes i₀ out i = length bytes - i
 
--- src/lib.rt:150:5
 loop-holds : tie.Need-loop-holds Inv-loop μ-loop
 loop-holds c = (omega arith, refl, paste-zero _ (c .args .at) (c .args .bytes .now))
 
--- src/lib.rt:151:23
 shared-slice-read-out : tie.Need-shared-slice-read-out Inv-loop μ-loop
 shared-slice-read-out c = omega arith
 
--- src/lib.rt:151:13
 add-out : tie.Need-add-out Inv-loop μ-loop
 add-out c = omega arith
 
--- src/lib.rt:151:9
 slice-write-out : tie.Need-slice-write-out Inv-loop μ-loop
 slice-write-out c = omega arith
 
--- src/lib.rt:152:9
 add-i : tie.Need-add-i Inv-loop μ-loop
 add-i c = omega arith
 
--- src/lib.rt:150:5
 loop-less : tie.Need-loop-less Inv-loop μ-loop
 loop-less c = omega arith
 
--- src/lib.rt:150:5
 loop-again : tie.Need-loop-again Inv-loop μ-loop
 loop-again c = let l : length (c .before .before .loop .out) ≡ length (c .before .before .before .args .out .now) = c .before .before .loop .inv .1 in
     (omega arith, simp length-set l, rw (c .before .before .loop .inv .2, add-one) (paste-suc (c .before .before .before .args .out .now) (c .before .before .before .args .at) (c .before .before .before .args .bytes .now) (c .before .before .loop .i) 0 (omega arith) (omega arith)))
 
--- src/lib.rt:145:1
 same-length : tie.Need-same-length Inv-loop μ-loop
 same-length c = c .before .loop .inv .1
 
--- src/lib.rt:145:1
 returns : tie.Need-returns Inv-loop μ-loop
 returns c = let e : c .before .loop .i ≡ length (c .before .before .args .bytes .now) = le-antisymm (c .before .loop .inv .0) (c .loop-test .left) in
     rw (e, take-length) at (c .before .loop .inv .2)

@@ -1,34 +1,25 @@
-use native.Mathlib.Omega.{arith}
-use mathlib.Core.Path.{_≡_, sym, _∙_, ap}
+-- `fields::field_body` meets its contract. Assumes nothing.
+use mathlib.Core.Path.{sym, _∙_, ap}
 use Rattle.fields.specs.Fields.{fieldBody}
 use borrow.Author.Needs.{needs}
 use Rattle.fields.proofs.field_body.Statement.{statement}
 use Rattle.fields.proofs.field_body.Tie as tie
-use Rattle.fields.proofs.field_body.Reads as reads
-use Rattle.fields.proofs.field_body.Lts as lts
-use Rattle.fields.proofs.part.Reads as part-reads
 
--- src/lib.rt:140:31
 enum-known-f : tie.Need-enum-known-f
 enum-known-f c = search needs
 
--- src/lib.rt:140:47
 part-requires : tie.Need-part-requires
 part-requires c κs = search needs
 
--- src/lib.rt:141:28
 enum-told : tie.Need-enum-told
 enum-told c = search needs
 
--- src/lib.rt:141:28
 slice-aggregate-result : tie.Need-slice-aggregate-result
 slice-aggregate-result c = search needs
 
--- src/lib.rt:136:1
 returns : tie.Need-returns
 returns c = c .part .ensures ∙ ap (fieldBody _) (sym (c .before .before .f .given .1))
 
--- src/lib.rt:136:1
 returns-2 : tie.Need-returns-2
 returns-2 c = search needs
 

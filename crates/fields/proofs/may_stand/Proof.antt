@@ -1,23 +1,17 @@
-use native.Mathlib.Omega.{arith}
+-- `fields::may_stand` meets its contract. Assumes nothing.
 use borrow.Author.Tests.{le-leb, lt-leb}
 use Rattle.fields.specs.Fields.{mayStand}
 use borrow.Author.Needs.{needs}
 use Rattle.fields.proofs.may_stand.Statement.{statement}
 use Rattle.fields.proofs.may_stand.Tie as tie
-use Rattle.fields.proofs.may_stand.Reads as reads
-use Rattle.fields.proofs.may_stand.Lts as lts
-use Rattle.fields.proofs.row_of.Reads as row-of-reads
 
--- src/lib.rt:43:9
 row-of-requires : tie.Need-row-of-requires
 row-of-requires c κs = search needs
 
--- src/lib.rt:45:9
 returns : tie.Need-returns
 unfolding mayStand
 returns c = rw (← (c .before .before .before .row-of .ensures), le-leb _ _ (c .before .if1 .taken))
 
--- src/lib.rt:40:1
 returns-2 : tie.Need-returns-2
 unfolding mayStand
 returns-2 c = rw (← (c .before .before .row-of .ensures), lt-leb _ _ (c .if1 .left))

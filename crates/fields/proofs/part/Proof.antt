@@ -1,3 +1,4 @@
+-- `fields::part` meets its contract. Assumes nothing.
 use native.Mathlib.Omega.{arith}
 use Prim.Native.Nat.{_+_}
 use lib.ListN.{length}
@@ -7,48 +8,36 @@ use Rattle.fields.specs.Fields.{partOf}
 use borrow.Author.Needs.{needs}
 use Rattle.fields.proofs.part.Statement.{statement}
 use Rattle.fields.proofs.part.Tie as tie
-use Rattle.fields.proofs.part.Reads as reads
-use Rattle.fields.proofs.part.Lts as lts
 
--- src/lib.rt:126:9
 slice-aggregate-result : tie.Need-slice-aggregate-result
 slice-aggregate-result c = search needs
 
--- src/lib.rt:126:9
 returns : tie.Need-returns
 unfolding partOf
 returns c = simp (lt-leb (c .before .before .args .start + c .before .before .args .len) (length (c .before .before .args .s .now)) (omega arith))
 
--- src/lib.rt:128:8
 sub-if2 : tie.Need-sub-if2
 sub-if2 c = search needs
 
--- src/lib.rt:129:9
 slice-aggregate-result-2 : tie.Need-slice-aggregate-result-2
 slice-aggregate-result-2 c = search needs
 
--- src/lib.rt:129:9
 returns-2 : tie.Need-returns-2
 unfolding partOf
 returns-2 c = simp (lt-leb (c .before .before .before .args .start + c .before .before .before .args .len) (length (c .before .before .before .args .s .now)) (omega arith))
 
--- src/lib.rt:131:15
 add-result : tie.Need-add-result
 add-result c = search needs
 
--- src/lib.rt:131:5
 sub-result : tie.Need-sub-result
 sub-result c = search needs
 
--- src/lib.rt:131:5
 part-result-start : tie.Need-part-result-start
 part-result-start c = search needs
 
--- src/lib.rt:131:5
 part-result-end : tie.Need-part-result-end
 part-result-end c = search needs
 
--- src/lib.rt:122:1
 returns-3 : tie.Need-returns-3
 unfolding partOf
 returns-3 c = simp (le-leb (c .before .before .before .args .start + c .before .before .before .args .len) (length (c .before .before .before .args .s .now)) (omega arith), add-sub-cancel-left)

@@ -1,89 +1,65 @@
+-- `fields::read_field` meets its contract. Assumes nothing.
 use native.Mathlib.Omega.{arith}
 use borrow.Author.Tests.{not-true, not-false}
 use Rattle.fields.proofs.Heads.{cut-header, wrong-tag, wrong-length, wrong-count, cut-body, whole-field}
 use borrow.Author.Needs.{needs}
 use Rattle.fields.proofs.read_field.Statement.{statement}
 use Rattle.fields.proofs.read_field.Tie as tie
-use Rattle.fields.proofs.read_field.Reads as reads
-use Rattle.fields.proofs.read_field.Lts as lts
-use Rattle.fields.proofs.count_fits.Reads as count-fits-reads
-use Rattle.fields.proofs.length_fits.Reads as length-fits-reads
-use Rattle.fields.proofs.may_stand.Reads as may-stand-reads
-use Rattle.fields.proofs.word.Reads as word-reads
 
--- src/lib.rt:81:9
 returns : tie.Need-returns
 returns c = cut-header _ _ _ (omega arith)
 
--- src/lib.rt:83:16
 sub-left : tie.Need-sub-left
 sub-left c = search needs
 
--- src/lib.rt:85:9
 returns-2 : tie.Need-returns-2
 returns-2 c = cut-header _ _ _ (c .if2 .taken)
 
--- src/lib.rt:87:15
 shared-slice-read-tag : tie.Need-shared-slice-read-tag
 shared-slice-read-tag c = search needs
 
--- src/lib.rt:88:22
 add-word : tie.Need-add-word
 add-word c = search needs
 
--- src/lib.rt:88:20
 shared-slice-read-word : tie.Need-shared-slice-read-word
 shared-slice-read-word c = search needs
 
--- src/lib.rt:88:33
 add-word-2 : tie.Need-add-word-2
 add-word-2 c = search needs
 
--- src/lib.rt:88:31
 shared-slice-read-word-2 : tie.Need-shared-slice-read-word-2
 shared-slice-read-word-2 c = search needs
 
--- src/lib.rt:88:15
 word-requires : tie.Need-word-requires
 word-requires c κs = search needs
 
--- src/lib.rt:88:15
 cast-len : tie.Need-cast-len
 cast-len c = search needs
 
--- src/lib.rt:89:9
 may-stand-requires : tie.Need-may-stand-requires
 may-stand-requires c κs = search needs
 
--- src/lib.rt:90:9
 returns-3 : tie.Need-returns-3
 returns-3 c = wrong-tag _ _ _ (c .before .before .before .before .before .before .if2 .left) _ (c .before .may-stand .ensures) (not-true _ (c .if3 .taken))
 
--- src/lib.rt:92:9
 length-fits-requires : tie.Need-length-fits-requires
 length-fits-requires c κs = search needs
 
--- src/lib.rt:93:9
 returns-4 : tie.Need-returns-4
 returns-4 c = wrong-length _ _ _ (c .before .before .before .before .before .before .before .before .if2 .left) _ (c .before .before .before .may-stand .ensures) (not-false _ (c .before .before .if3 .left)) _ (c .before .before .before .before .word .ensures) _ (c .before .length-fits .ensures) (not-true _ (c .if4 .taken))
 
--- src/lib.rt:95:9
 count-fits-requires : tie.Need-count-fits-requires
 count-fits-requires c κs = search needs
 
--- src/lib.rt:96:9
 returns-5 : tie.Need-returns-5
 returns-5 c = wrong-count _ _ _ (c .before .before .before .before .before .before .before .before .before .before .if2 .left) _ (c .before .before .before .before .before .may-stand .ensures) (not-false _ (c .before .before .before .before .if3 .left)) _ (c .before .before .before .before .before .before .word .ensures) _ (c .before .before .before .length-fits .ensures) (not-false _ (c .before .before .if4 .left)) _ (c .before .count-fits .ensures) (not-true _ (c .if5 .taken))
 
--- src/lib.rt:99:9
 returns-6 : tie.Need-returns-6
 returns-6 c = cut-body _ _ _ (c .before .before .before .before .before .before .before .before .before .before .before .if2 .left) _ (c .before .before .before .before .before .before .may-stand .ensures) (not-false _ (c .before .before .before .before .before .if3 .left)) _ (c .before .before .before .before .before .before .before .word .ensures) _ (c .before .before .before .before .length-fits .ensures) (not-false _ (c .before .before .before .if4 .left)) _ (c .before .before .count-fits .ensures) (not-false _ (c .before .if5 .left)) (c .if6 .taken)
 
--- src/lib.rt:103:16
 add-t13 : tie.Need-add-t13
 add-t13 c = search needs
 
--- src/lib.rt:77:1
 returns-7 : tie.Need-returns-7
 returns-7 c = whole-field _ _ _ (c .before .before .before .before .before .before .before .before .before .before .before .if2 .left) _ (c .before .before .before .before .before .before .may-stand .ensures) (not-false _ (c .before .before .before .before .before .if3 .left)) _ (c .before .before .before .before .before .before .before .word .ensures) _ (c .before .before .before .before .length-fits .ensures) (not-false _ (c .before .before .before .if4 .left)) _ (c .before .before .count-fits .ensures) (not-false _ (c .before .if5 .left)) (c .if6 .left)
 

@@ -1,5 +1,5 @@
-use native.Mathlib.Omega.{arith}
-use mathlib.Core.Path.{_≡_, refl, sym, _∙_, ap, ap₂}
+-- `files::grid_number` meets its contract. Assumes nothing.
+use mathlib.Core.Path.{_≡_}
 use mir.Syntax.{w16}
 use mir.ValLaws.{toZ-ofZ}
 use borrow.Author.Tests.{eq-eqb, ne-eqb}
@@ -8,45 +8,32 @@ use Rattle.files.specs.Reader.{gridNumber}
 use borrow.Author.Needs.{needs}
 use Rattle.files.proofs.grid_number.Statement.{statement}
 use Rattle.files.proofs.grid_number.Tie as tie
-use Rattle.files.proofs.grid_number.Reads as reads
-use Rattle.files.proofs.grid_number.Lts as lts
-use Rattle.integers.proofs.signed16.Reads as signed16-reads
-use Rattle.plan.proofs.grid_ok.Reads as grid-ok-reads
 
--- src/lib.rt:45:9
 returns : tie.Need-returns
 unfolding gridNumber
 returns c = rw (ne-eqb _ _ (c .if1 .taken))
 
--- src/lib.rt:47:33
 shared-slice-read-signed16 : tie.Need-shared-slice-read-signed16
 shared-slice-read-signed16 c = search needs
 
--- src/lib.rt:47:39
 shared-slice-read-signed16-2 : tie.Need-shared-slice-read-signed16-2
 shared-slice-read-signed16-2 c = search needs
 
--- src/lib.rt:47:9
 signed16-requires : tie.Need-signed16-requires
 signed16-requires c κs = search needs
 
--- src/lib.rt:48:33
 shared-slice-read-signed16-3 : tie.Need-shared-slice-read-signed16-3
 shared-slice-read-signed16-3 c = search needs
 
--- src/lib.rt:48:39
 shared-slice-read-signed16-4 : tie.Need-shared-slice-read-signed16-4
 shared-slice-read-signed16-4 c = search needs
 
--- src/lib.rt:48:9
 signed16-requires-2 : tie.Need-signed16-requires-2
 signed16-requires-2 c κs = search needs
 
--- src/lib.rt:49:8
 grid-ok-requires : tie.Need-grid-ok-requires
 grid-ok-requires c κs = search needs
 
--- src/lib.rt:50:9
 returns-2 : tie.Need-returns-2
 unfolding gridNumber
 returns-2 c = let a = toZ-ofZ w16 (c .before .before .before .before .before .signed16 .result) (record { sfits = c .before .before .before .before .before .signed16 .ok }) in
@@ -54,7 +41,6 @@ returns-2 c = let a = toZ-ofZ w16 (c .before .before .before .before .before .si
     let o : c .before .grid-ok .result ≡ gridOk (c .before .before .before .before .before .signed16 .result) (c .before .before .signed162 .result) = simp (a, b) at (c .before .grid-ok .ensures) in
     rw (eq-eqb _ _ (c .before .before .before .before .before .before .before .before .if1 .left), ← (c .before .before .before .before .before .signed16 .ensures), ← (c .before .before .signed162 .ensures), ← o, c .if2 .taken)
 
--- src/lib.rt:41:1
 returns-3 : tie.Need-returns-3
 unfolding gridNumber
 returns-3 c = let a = toZ-ofZ w16 (c .before .before .before .before .before .signed16 .result) (record { sfits = c .before .before .before .before .before .signed16 .ok }) in

@@ -1,5 +1,5 @@
-use native.Mathlib.Omega.{arith}
-use mathlib.Core.Path.{_≡_, refl, sym, _∙_, ap, ap₂}
+-- `files::open_bodies` meets its contract. Assumes nothing.
+use mathlib.Core.Path.{_≡_}
 use lib.ListN.{getD}
 use mir.Syntax.{w16}
 use mir.ValLaws.{toZ-ofZ}
@@ -9,71 +9,51 @@ use Rattle.files.specs.Reader.{openBodies}
 use borrow.Author.Needs.{needs}
 use Rattle.files.proofs.open_bodies.Statement.{statement}
 use Rattle.files.proofs.open_bodies.Tie as tie
-use Rattle.files.proofs.open_bodies.Reads as reads
-use Rattle.files.proofs.open_bodies.Lts as lts
-use Rattle.files.proofs.no_plan.Reads as no-plan-reads
-use Rattle.integers.proofs.signed16.Reads as signed16-reads
-use Rattle.plan.proofs.Plan.open.Reads as open-reads
 
--- src/lib.rt:68:9
 no-plan-requires : tie.Need-no-plan-requires
 no-plan-requires c κs = search needs
 
--- src/lib.rt:68:9
 returns : tie.Need-returns
 unfolding openBodies
 returns c = rw (ne-eqb _ _ (c .before .if1 .taken)) (c .no-plan .ensures)
 
--- src/lib.rt:71:9
 no-plan-requires-2 : tie.Need-no-plan-requires-2
 no-plan-requires-2 c κs = search needs
 
--- src/lib.rt:71:9
 returns-2 : tie.Need-returns-2
 unfolding openBodies
 returns-2 c = rw (eq-eqb _ _ (c .before .before .if1 .left), ne-eqb _ _ (c .before .if2 .taken)) (c .no-plan2 .ensures)
 
--- src/lib.rt:73:33
 shared-slice-read-signed16 : tie.Need-shared-slice-read-signed16
 shared-slice-read-signed16 c = search needs
 
--- src/lib.rt:73:39
 shared-slice-read-signed16-2 : tie.Need-shared-slice-read-signed16-2
 shared-slice-read-signed16-2 c = search needs
 
--- src/lib.rt:73:9
 signed16-requires : tie.Need-signed16-requires
 signed16-requires c κs = search needs
 
--- src/lib.rt:74:33
 shared-slice-read-signed16-3 : tie.Need-shared-slice-read-signed16-3
 shared-slice-read-signed16-3 c = search needs
 
--- src/lib.rt:74:39
 shared-slice-read-signed16-4 : tie.Need-shared-slice-read-signed16-4
 shared-slice-read-signed16-4 c = search needs
 
--- src/lib.rt:74:9
 signed16-requires-2 : tie.Need-signed16-requires-2
 signed16-requires-2 c κs = search needs
 
--- src/lib.rt:75:24
 shared-slice-read-open : tie.Need-shared-slice-read-open
 shared-slice-read-open c = search needs
 
--- src/lib.rt:75:30
 shared-slice-read-open-2 : tie.Need-shared-slice-read-open-2
 shared-slice-read-open-2 c = search needs
 
--- src/lib.rt:75:36
 shared-slice-read-open-3 : tie.Need-shared-slice-read-open-3
 shared-slice-read-open-3 c = search needs
 
--- src/lib.rt:75:5
 open-requires : tie.Need-open-requires
 open-requires c κs = search needs
 
--- src/lib.rt:64:1
 returns-3 : tie.Need-returns-3
 unfolding openBodies
 returns-3 c = let a = toZ-ofZ w16 (c .before .before .before .before .before .before .before .signed16 .result) (record { sfits = c .before .before .before .before .before .before .before .signed16 .ok }) in

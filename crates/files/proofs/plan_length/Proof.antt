@@ -1,37 +1,28 @@
-use native.Mathlib.Omega.{arith}
+-- `files::plan_length` meets its contract. Assumes nothing.
 use mathlib.Core.Path.{refl}
 use Rattle.files.specs.Writer.{planLength}
 use borrow.Author.Needs.{needs}
 use Rattle.files.proofs.plan_length.Statement.{statement}
 use Rattle.files.proofs.plan_length.Tie as tie
-use Rattle.files.proofs.plan_length.Reads as reads
-use Rattle.files.proofs.plan_length.Lts as lts
 
--- src/lib.rt:319:10
 mul-result : tie.Need-mul-result
 mul-result c = search needs
 
--- src/lib.rt:319:5
 add-result : tie.Need-add-result
 add-result c = search needs
 
--- src/lib.rt:319:31
 mul-result-2 : tie.Need-mul-result-2
 mul-result-2 c = search needs
 
--- src/lib.rt:319:5
 add-result-2 : tie.Need-add-result-2
 add-result-2 c = search needs
 
--- src/lib.rt:319:53
 mul-result-3 : tie.Need-mul-result-3
 mul-result-3 c = search needs
 
--- src/lib.rt:319:5
 add-result-3 : tie.Need-add-result-3
 add-result-3 c = search needs
 
--- src/lib.rt:315:1
 returns : tie.Need-returns
 unfolding planLength
 returns c = refl

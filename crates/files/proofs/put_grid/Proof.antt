@@ -1,4 +1,4 @@
-use native.Mathlib.Omega.{arith}
+-- `files::put_grid` meets its contract. Assumes nothing.
 use Rattle.readings.specs.Codec.{bytesOf}
 use Rattle.integers.specs.Bytes.{bits16}
 use mir.Syntax.{w16}
@@ -8,41 +8,28 @@ use Prim.Native.Nat.{_/_, _%_}
 use borrow.Author.Needs.{needs}
 use Rattle.files.proofs.put_grid.Statement.{statement}
 use Rattle.files.proofs.put_grid.Tie as tie
-use Rattle.files.proofs.put_grid.Reads as reads
-use Rattle.files.proofs.put_grid.Lts as lts
-use Rattle.fields.proofs.put.Reads as put-reads
-use Rattle.integers.proofs.high16.Reads as high16-reads
-use Rattle.integers.proofs.low16.Reads as low16-reads
 
--- src/lib.rt:228:9
 high16-requires : tie.Need-high16-requires
 high16-requires c κs = search needs
 
--- src/lib.rt:229:9
 low16-requires : tie.Need-low16-requires
 low16-requires c κs = search needs
 
--- src/lib.rt:230:9
 high16-requires-2 : tie.Need-high16-requires-2
 high16-requires-2 c κs = search needs
 
--- src/lib.rt:231:9
 low16-requires-2 : tie.Need-low16-requires-2
 low16-requires-2 c κs = search needs
 
--- src/lib.rt:233:25
 slice-aggregate-put : tie.Need-slice-aggregate-put
 slice-aggregate-put c = search needs
 
--- src/lib.rt:233:5
 put-requires : tie.Need-put-requires
 put-requires c κs = search needs
 
--- src/lib.rt:221:1
 same-length : tie.Need-same-length
 same-length c = search needs
 
--- src/lib.rt:221:1
 returns : tie.Need-returns
 unfolding bytesOf
 returns c = let a = toZ-ofZ w16 (c .before .before .before .before .before .before .before .before .before .before .args .lo) (c .before .before .before .before .before .before .before .before .before .before .fits .lo) in

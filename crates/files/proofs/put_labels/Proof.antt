@@ -1,3 +1,4 @@
+-- `files::put_labels` meets its contract. Assumes nothing.
 use native.Mathlib.Omega.{arith}
 use Rattle.files.proofs.Store.{no-labels, label-turn}
 use Rattle.files.specs.Writer.{labelsBytes, labelField}
@@ -5,15 +6,12 @@ use Rattle.plan.specs.Build.{noLabel}
 use Rattle.fields.specs.Put.{put-length}
 use Rattle.fields.specs.Fields.{putAt}
 use native.Mathlib.Nat.{le-antisymm}
-use mathlib.Core.Path.{_≡_, refl, sym, _∙_, ap}
+use mathlib.Core.Path.{_≡_, refl, _∙_, ap}
 use lib.ListN.{length, getD}
-use Prim.Native.Nat.{ℕ, _≤_, _-_, _+_, _*_}
+use Prim.Native.Nat.{_≤_, _-_, _+_, _*_}
 use borrow.Author.Needs.{needs}
 use Rattle.files.proofs.put_labels.Statement.{statement}
 use Rattle.files.proofs.put_labels.Tie as tie
-use Rattle.files.proofs.put_labels.Reads as reads
-use Rattle.files.proofs.put_labels.Lts as lts
-use Rattle.files.proofs.put_label.Reads as put-label-reads
 
 abbrev Inv-loop : tie.InvT-loop
 Inv-loop out₀ at n labels i₀ out i = (i ≤ n) × (length out ≡ length out₀) × (out ≡ putAt out₀ at (labelsBytes labels i))
@@ -21,49 +19,38 @@ Inv-loop out₀ at n labels i₀ out i = (i ≤ n) × (length out ≡ length out
 abbrev μ-loop : tie.MeasureT-loop
 μ-loop out₀ at n labels i₀ out i = n - i
 
--- src/lib.rt:296:5
 loop-holds : tie.Need-loop-holds Inv-loop μ-loop
 loop-holds c = (omega arith, refl, no-labels _ _ _ (omega arith))
 
--- src/lib.rt:297:17
 mul-l : tie.Need-mul-l Inv-loop μ-loop
 mul-l c = omega arith
 
--- src/lib.rt:297:17
 array-copy-out-l : tie.Need-array-copy-out-l Inv-loop μ-loop
 array-copy-out-l c = omega arith
 
--- src/lib.rt:298:29
 mul-put-label : tie.Need-mul-put-label Inv-loop μ-loop
 mul-put-label c = omega arith
 
--- src/lib.rt:298:24
 add-put-label : tie.Need-add-put-label Inv-loop μ-loop
 add-put-label c = omega arith
 
--- src/lib.rt:298:9
 put-label-requires : tie.Need-put-label-requires Inv-loop μ-loop
 put-label-requires c κs = search needs
 
--- src/lib.rt:299:9
 add-i : tie.Need-add-i Inv-loop μ-loop
 add-i c = omega arith
 
--- src/lib.rt:296:5
 loop-less : tie.Need-loop-less Inv-loop μ-loop
 loop-less c = omega arith
 
--- src/lib.rt:296:5
 loop-again : tie.Need-loop-again Inv-loop μ-loop
 loop-again c = let l : length (c .before .before .before .before .before .before .loop .out) ≡ length (c .before .before .before .before .before .before .before .before .args .out .now) = c .before .before .before .before .before .before .loop .inv .1 in
     let e = getD (c .before .before .before .before .before .before .before .before .args .t3) (c .before .before .before .before .before .before .loop .i) noLabel in
     (omega arith, ap length (c .before .before .put-label .ensures) ∙ put-length (c .before .before .before .before .before .before .loop .out) (c .before .before .before .before .before .before .before .before .args .at + 8 * c .before .before .before .before .before .before .loop .i) (labelField e) ∙ l, c .before .before .put-label .ensures ∙ ap (λ x. putAt x (c .before .before .before .before .before .before .before .before .args .at + 8 * c .before .before .before .before .before .before .loop .i) (labelField e)) (c .before .before .before .before .before .before .loop .inv .2) ∙ label-turn (c .before .before .before .before .before .before .before .before .args .out .now) (c .before .before .before .before .before .before .before .before .args .at) (c .before .before .before .before .before .before .before .before .args .t3) (c .before .before .before .before .before .before .loop .i) (omega arith))
 
--- src/lib.rt:291:1
 same-length : tie.Need-same-length Inv-loop μ-loop
 same-length c = c .before .loop .inv .1
 
--- src/lib.rt:291:1
 returns : tie.Need-returns Inv-loop μ-loop
 returns c = let e : c .before .loop .i ≡ c .before .before .before .args .n = le-antisymm (c .before .loop .inv .0) (c .loop-test .left) in rw e at (c .before .loop .inv .2)
 

@@ -1,41 +1,31 @@
+-- `files::write_plan` meets its contract. Assumes nothing.
 use native.Mathlib.Omega.{arith}
-use Rattle.files.specs.Sizes.{Writes, write-room, plan-length}
+use Rattle.files.specs.Sizes.{write-room, plan-length}
 use Rattle.files.specs.Writer.{planBytes, planLength}
-use Rattle.fields.specs.declared.Written.the-variants.{Bytes, Refused}
+use Rattle.fields.specs.declared.Written.the-variants.{Bytes}
 use Rattle.fields.specs.Put.{write-refused, write-done, put-front}
 use Rattle.readings.specs.Trips.{count-is}
 use lib.ListN.{length}
-use mathlib.Core.Path.{_≡_, sym, _∙_, ap, ap₂}
+use mathlib.Core.Path.{sym, _∙_, ap}
 use borrow.Author.Needs.{needs}
 use Rattle.files.proofs.write_plan.Statement.{statement}
 use Rattle.files.proofs.write_plan.Tie as tie
-use Rattle.files.proofs.write_plan.Reads as reads
-use Rattle.files.proofs.write_plan.Lts as lts
-use Rattle.files.proofs.plan_length.Reads as plan-length-reads
-use Rattle.files.proofs.put_plan.Reads as put-plan-reads
-use Rattle.files.proofs.write_number.Reads as write-number-reads
 
--- src/lib.rt:363:9
 write-number-requires : tie.Need-write-number-requires
 write-number-requires c κs = search needs
 
--- src/lib.rt:365:9
 returns : tie.Need-returns
 returns c = write-refused _ _ _ _ _ (sym (c .before .write-number .ensures)) (c .if1 .taken)
 
--- src/lib.rt:367:5
 put-plan-requires : tie.Need-put-plan-requires
 put-plan-requires c κs = write-room _ _ _ (sym (c .before .before .write-number .ensures) ∙ c .before .if1 .left) .space
 
--- src/lib.rt:368:20
 plan-length-requires : tie.Need-plan-length-requires
 plan-length-requires c κs = let w = write-room _ _ _ (sym (c .before .before .before .before .before .write-number .ensures) ∙ c .before .before .before .before .if1 .left) .space in (w .edges, w .labels, count-is _ (w .counts) .1)
 
--- src/lib.rt:358:1
 same-length : tie.Need-same-length
 same-length c = search needs
 
--- src/lib.rt:358:1
 returns-2 : tie.Need-returns-2
 unfolding planLength
 returns-2 c = let e = sym (c .before .before .before .before .before .before .write-number .ensures) ∙ c .before .before .before .before .before .if1 .left in

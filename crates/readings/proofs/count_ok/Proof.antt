@@ -1,18 +1,13 @@
-use native.Mathlib.Omega.{arith}
+-- `readings::count_ok` meets its contract. Assumes nothing.
 use borrow.Author.Tests.{eq-eqb, ne-eqb}
 use Rattle.readings.specs.Codec.{countOk}
-use borrow.Author.Needs.{needs}
 use Rattle.readings.proofs.count_ok.Statement.{statement}
 use Rattle.readings.proofs.count_ok.Tie as tie
-use Rattle.readings.proofs.count_ok.Reads as reads
-use Rattle.readings.proofs.count_ok.Lts as lts
 
--- src/lib.rt:13:9
 returns : tie.Need-returns
 unfolding countOk
 returns c = simp (eq-eqb _ _ (c .if1 .taken))
 
--- src/lib.rt:9:1
 returns-2 : tie.Need-returns-2
 unfolding countOk
 returns-2 c = simp (ne-eqb _ _ (c .if1 .left))

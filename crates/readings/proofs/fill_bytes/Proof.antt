@@ -1,23 +1,20 @@
+-- `readings::fill_bytes` meets its contract. Assumes nothing.
 use native.Mathlib.Omega.{arith}
 use Rattle.readings.specs.Codec.{bytesOf}
 use Rattle.readings.proofs.Turn.{no-bytes, bytes-turn}
 use Rattle.integers.specs.Bytes.{bits16}
 use native.Mathlib.Nat.{le-antisymm}
-use mathlib.Core.Path.{_≡_, refl, sym, _∙_, ap}
+use mathlib.Core.Path.{_≡_, refl, _∙_, ap}
 use mathlib.Core.List.{_++_}
 use lib.Seq.{take-all}
 use lib.ListN.{length, drop, take, getD, length-set}
-use Prim.Native.Nat.{ℕ, _≤_, _-_, _*_, _+_, _/_, _%_}
+use Prim.Native.Nat.{_≤_, _-_, _*_, _/_, _%_}
 use lib.IntN.{pos}
 use mir.Syntax.{w16}
 use mir.ValLaws.{toZ-ofZ}
 use borrow.Author.Needs.{needs}
 use Rattle.readings.proofs.fill_bytes.Statement.{statement}
 use Rattle.readings.proofs.fill_bytes.Tie as tie
-use Rattle.readings.proofs.fill_bytes.Reads as reads
-use Rattle.readings.proofs.fill_bytes.Lts as lts
-use Rattle.integers.proofs.high16.Reads as high16-reads
-use Rattle.integers.proofs.low16.Reads as low16-reads
 
 abbrev Inv-loop : tie.InvT-loop
 Inv-loop zs out₀ i₀ out i = (i ≤ length zs) × (length out ≡ length out₀) × (out ≡ bytesOf (take i zs) ++ drop (2 * i) out₀)
@@ -25,55 +22,42 @@ Inv-loop zs out₀ i₀ out i = (i ≤ length zs) × (length out ≡ length out�
 abbrev μ-loop : tie.MeasureT-loop
 μ-loop zs out₀ i₀ out i = length zs - i
 
--- src/lib.rt:55:5
 loop-holds : tie.Need-loop-holds Inv-loop μ-loop
 loop-holds c = (omega arith, refl, no-bytes _)
 
--- src/lib.rt:56:17
 mul-z : tie.Need-mul-z Inv-loop μ-loop
 mul-z c = omega arith
 
--- src/lib.rt:56:17
 shared-slice-copy-out-z : tie.Need-shared-slice-copy-out-z Inv-loop μ-loop
 shared-slice-copy-out-z c = omega arith
 
--- src/lib.rt:57:22
 high16-requires : tie.Need-high16-requires Inv-loop μ-loop
 high16-requires c κs = search needs
 
--- src/lib.rt:57:13
 mul-out : tie.Need-mul-out Inv-loop μ-loop
 mul-out c = omega arith
 
--- src/lib.rt:57:9
 slice-write-out : tie.Need-slice-write-out Inv-loop μ-loop
 slice-write-out c = omega arith
 
--- src/lib.rt:58:26
 low16-requires : tie.Need-low16-requires Inv-loop μ-loop
 low16-requires c κs = search needs
 
--- src/lib.rt:58:13
 mul-out-2 : tie.Need-mul-out-2 Inv-loop μ-loop
 mul-out-2 c = omega arith
 
--- src/lib.rt:58:13
 add-out : tie.Need-add-out Inv-loop μ-loop
 add-out c = omega arith
 
--- src/lib.rt:58:9
 slice-write-out-2 : tie.Need-slice-write-out-2 Inv-loop μ-loop
 slice-write-out-2 c = simp length-set (omega arith)
 
--- src/lib.rt:59:9
 add-i : tie.Need-add-i Inv-loop μ-loop
 add-i c = omega arith
 
--- src/lib.rt:55:5
 loop-less : tie.Need-loop-less Inv-loop μ-loop
 loop-less c = omega arith
 
--- src/lib.rt:55:5
 loop-again : tie.Need-loop-again Inv-loop μ-loop
 loop-again c = let l : length (c .before .before .before .before .loop .out) ≡ length (c .before .before .before .before .before .before .args .out .now) = c .before .before .before .before .loop .inv .1 in
     let x = toZ-ofZ w16 (getD (c .before .before .before .before .before .before .args .zs .now) (c .before .before .before .before .loop .i) (pos 0)) (record { sfits = c .before .before .z .given }) in
@@ -81,11 +65,9 @@ loop-again c = let l : length (c .before .before .before .before .loop .out) ≡
     let k : c .low16 .result ≡ bits16 (getD (c .before .before .before .before .before .before .args .zs .now) (c .before .before .before .before .loop .i) (pos 0)) % 256 = c .low16 .ensures ∙ ap (λ z. bits16 z % 256) x in
     (omega arith, simp length-set l, rw (h, k, c .before .before .before .before .loop .inv .2) (bytes-turn (c .before .before .before .before .before .before .args .zs .now) (c .before .before .before .before .loop .i) (omega arith) (c .before .before .before .before .before .before .args .out .now) (omega arith)))
 
--- src/lib.rt:50:1
 same-length : tie.Need-same-length Inv-loop μ-loop
 same-length c = c .before .loop .inv .1
 
--- src/lib.rt:50:1
 returns : tie.Need-returns Inv-loop μ-loop
 returns c = let e : c .before .loop .i ≡ length (c .before .before .before .args .zs .now) = le-antisymm (c .before .loop .inv .0) (c .loop-test .left) in
     let t : take (length (c .before .before .before .args .zs .now)) (c .before .before .before .args .zs .now) ≡ c .before .before .before .args .zs .now = take-all (length (c .before .before .before .args .zs .now)) (c .before .before .before .args .zs .now) (omega arith) in
