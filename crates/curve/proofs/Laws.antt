@@ -86,13 +86,6 @@ appended-back ws dst n end q p l e =
     let s : n - 1 + 1 ≡ n = omega arith in
     subst (λ (k : ℕ). Appended ws (set ws (dst + 4 * (n - 1)) end) dst k end q k) s (appended-longer ws dst (n - 1) end q (omega arith) e)
 
-mk : ℕ → ℕ → ℕ → Quad
-mk a z c = record { a = a; z = z; c = c }
-
-pub quad-eq : (p q : Quad) → p .a ≡ q .a → p .z ≡ q .z → p .c ≡ q .c → p ≡ q
-unfolding mk
-quad-eq p q ea ez ec = ap (λ (x : ℕ). mk x (p .z) (p .c)) ea ∙ ap (λ (x : ℕ). mk (q .a) x (p .c)) ez ∙ ap (λ (x : ℕ). mk (q .a) (q .z) x) ec
-
 -- ---- the better of two
 pub small : {q : Quad} → Sized q → Small q
 small s = record { count = s .count; sum = s .sum; rest = omega (arith, s .rest) }

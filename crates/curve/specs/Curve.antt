@@ -14,9 +14,9 @@ use borrow.Author.Tests.{le-leb, lt-leb, lt-ltb, le-ltb, eq-eqb}
 use Rattle.integers.specs.Rep.{le-or-lt}
 use Rattle.quadratic.specs.declared.Quad.{Quad}
 use Rattle.quadratic.specs.Quad.{up, down, value, none, flat, Small, Sized, Fine, pick, raised, pushed, moved, mirrored, better}
-use Rattle.quadratic.specs.Fine.{Bounds, far, plus, square-most, fine-sized, fine-none, fine-flat, fine-wider, fine-raised, value-raised, fine-pushed, value-pushed, fine-moved, value-moved, mirror-sum, mirror-rest, fine-mirrored, value-mirrored, value-better, fine-better, value-most, kinds}
+use Rattle.quadratic.specs.Fine.{pickN, Bounds, far, plus, square-most, fine-sized, fine-none, fine-flat, fine-wider, fine-raised, value-raised, fine-pushed, value-pushed, fine-moved, value-moved, mirror-sum, mirror-rest, fine-mirrored, value-mirrored, value-better, fine-better, value-most, kinds}
 use Rattle.curve.specs.declared.Low.{Low}
-use Rattle.curve.specs.Pieces.{pickN, piece, Formed, Kept, Same, Apart, Made, Held, Lent, Copied, shiftOf, mirrorOf, Turnable}
+use Rattle.curve.specs.Pieces.{piece, Formed, Kept, Same, Apart, Made, Held, Lent, Copied, shiftOf, mirrorOf, Turnable}
 use Rattle.curve.specs.Lists.{same-built, kept-same, opened, count-most, closed, copied-built}
 use Rattle.curve.specs.Lows.{top, costs, Least, LeastIn, lowest, prefixOf, lowest-zero, lowest-new, lowest-old, lowest-among, prefix-new, prefix-old}
 

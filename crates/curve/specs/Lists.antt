@@ -10,8 +10,9 @@ use lib.Dec.{leb}
 use lib.ListN.{length, getD}
 use borrow.Author.Tests.{le-leb, lt-leb}
 use Rattle.integers.specs.Rep.{le-or-lt}
+use Rattle.quadratic.specs.Fine.{pickN}
 use Rattle.quadratic.specs.declared.Quad.{Quad}
-use Rattle.curve.specs.Pieces.{endOf, startOf, quadAt, pickN, seek, piece, Formed, Built, Is, Kept, Same, Apart, Stored, Appended, Emits, Made, Held, Lent, Copied}
+use Rattle.curve.specs.Pieces.{endOf, startOf, quadAt, seek, piece, Formed, Built, Is, Kept, Same, Apart, Stored, Appended, Emits, Made, Held, Lent, Copied}
 
 pub start-next : (ws : List ℕ) (o k : ℕ) → startOf ws o (k + 1) ≡ endOf ws o k + 1
 unfolding startOf

@@ -8,6 +8,7 @@ use Prim.Native.Nat.{ℕ, zero, suc, _+_, _*_, _-_, _≤_, _<_}
 use lib.Dec.{leb}
 use lib.ListN.{length, getD}
 use Rattle.quadratic.specs.declared.Quad.{Quad}
+use Rattle.quadratic.specs.Fine.{pickN}
 use Rattle.quadratic.specs.Quad.{Sized, pick, flat, none, moved, mirrored}
 
 -- the last level of the kth piece of the list at o, and its first
@@ -20,10 +21,6 @@ startOf ws o (suc k) = endOf ws o k + 1
 
 abbrev pub quadAt : List ℕ → ℕ → Quad
 quadAt ws i = record { a = getD ws (i + 1) 0; z = getD ws (i + 2) 0; c = getD ws (i + 3) 0 }
-
-abbrev pub pickN : Bool → ℕ → ℕ → ℕ
-pickN true a b = a
-pickN false a b = b
 
 -- where the piece in force at level j begins, among the n pieces from o on
 unfoldable pub seek : ℕ → List ℕ → ℕ → ℕ → ℕ

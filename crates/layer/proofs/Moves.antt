@@ -10,9 +10,9 @@ use lib.ListN.{length}
 use borrow.Author.Tests.{le-leb, lt-leb, lt-ltb, le-ltb}
 use Rattle.integers.specs.Rep.{le-or-lt}
 use Rattle.quadratic.specs.Quad.{better, raised, pushed, flat, none}
-use Rattle.quadratic.specs.Fine.{far}
+use Rattle.quadratic.specs.Fine.{pickN, far}
 use Rattle.curve.specs.declared.Low.{Low}
-use Rattle.curve.specs.Pieces.{pickN, piece, Kept, Made, shiftOf, mirrorOf}
+use Rattle.curve.specs.Pieces.{piece, Kept, Made, shiftOf, mirrorOf}
 use Rattle.curve.specs.Lows.{lowest, prefixOf, costs, LeastIn, Least}
 use Rattle.curve.specs.Curve.{Curve, Limits, curve-as, curve-prefix, curve-shift, curve-mirror, curve-least, curve-loss, curve-flat, curve-wider, curve-costs, curve-none, curve-most, curve-value, curve-least-in}
 use Rattle.plan.specs.declared.Kind.{Kind}
