@@ -272,21 +272,6 @@ back {ws₀} {ws} {dst} {len} {o} {L} {k} {x} t h l b g p = record {
 pub at-most : {ws : List ℕ} {o L i x : ℕ} → At ws o L i x → (f : Formed ws o L) → i ≤ f .count
 at-most a f = omega (arith, a .inside, count-same (a .formed) f)
 
--- ---- the first piece
-pub record First (ws : List ℕ) (o L : ℕ) : Type 0 where
-  pub room : o + 4 ≤ length ws
-  pub to : getD ws o 0 < L
-  pub is : (j : ℕ) → j ≤ getD ws o 0 → piece ws o L j ≡ quadAt ws o
-
-pub first : {ws : List ℕ} {o L : ℕ} → Held ws o L → 0 < L → First ws o L
-first {ws} {o} {L} h l = record { room = omega (arith, h .room, s .within (h .formed)); to = rw z at (s .to); is = λ j p. rw z at (s .is j (omega arith) (rw z p)) }
-  where
-    s : Here ws o L 0 0
-    s = here (at-start (h .formed)) l
-
-    z : o + 4 * 0 ≡ o
-    z = omega arith
-
 -- ---- copying word for word
 pub record Copying (ws₀ ws : List ℕ) (o dst n i : ℕ) : Type 0 where
   pub kept : Kept ws₀ ws dst (4 * n)

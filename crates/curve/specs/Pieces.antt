@@ -2,10 +2,10 @@
 -- last one L − 1. What a list says at a level is the quadratic in force there, `piece`. Assumes nothing.
 use mathlib.Core.Path.{_≡_}
 use mathlib.Core.Logic.{_⊎_}
-use mathlib.Core.Bool.{Bool, true, false}
+use mathlib.Core.Bool.{Bool, true, false, cond}
 use mathlib.Core.List.{List}
 use Prim.Native.Nat.{ℕ, zero, suc, _+_, _*_, _-_, _≤_, _<_}
-use lib.Dec.{leb}
+use lib.Dec.{leb, eqb}
 use lib.ListN.{length, getD}
 use Rattle.quadratic.specs.declared.Quad.{Quad}
 use Rattle.quadratic.specs.Fine.{pickN}
@@ -30,6 +30,10 @@ seek (suc n) ws o j = pickN (leb j (getD ws o 0)) o (seek n ws (o + 4) j)
 -- the quadratic in force at level j of the list at o, over L levels
 unfoldable pub piece : List ℕ → ℕ → ℕ → ℕ → Quad
 piece ws o L j = quadAt ws (seek L ws o j)
+
+-- whether the list at o is one piece, none
+unfoldable pub noneOnly : List ℕ → ℕ → ℕ → Bool
+noneOnly ws o L = cond (eqb (getD ws o 0 + 1) L) (eqb (getD ws (o + 3) 0) none) false
 
 -- there is a list over L levels at o
 pub record Formed (ws : List ℕ) (o L : ℕ) : Type 0 where

@@ -18,7 +18,7 @@ ghost use Prim.Native.Nat.{ℕ, _+_, _*_, _-_, _≤_, _<_};
 ghost use lib.ListN.{length, getD};
 ghost use Rattle.quadratic.specs.Quad.{Small, Sized, Fine, raised, pushed, moved, mirrored, better, value, flat, none, up, down, Over};
 ghost use Rattle.curve.specs.Lows.{LeastIn, Drops, Prefixed, Lowered, prefixOf, costs, lowest};
-ghost use Rattle.curve.specs.Pieces.{quadAt, Kept, Built, Is, Formed, piece, Stored, Appended, Emits, Made, Apart, Held, Lent, Copyable, Copied, startOf, endOf, endsBelow, shiftOf, mirrorOf, Turnable};
+ghost use Rattle.curve.specs.Pieces.{noneOnly, quadAt, Kept, Built, Is, Formed, piece, Stored, Appended, Emits, Made, Apart, Held, Lent, Copyable, Copied, startOf, endOf, endsBelow, shiftOf, mirrorOf, Turnable};
 
 // The piece at a place, without its end.
 fn load(ws: &[u64], at: usize) -> Quad
@@ -429,7 +429,7 @@ pub fn value_at(ws: &[u64], f: usize, j: u64, levels: u64, base: u64) -> u64
 // Whether f is one piece, none. Since equal neighbours are joined, a list that is none everywhere is; a wrong no would cost time only.
 pub fn all_none(ws: &[u64], f: usize, levels: u64) -> bool
     requires { ⌜ Held (now ws) f levels × ((0 < levels) × (levels ≤ 262144)) ⌝ }
-    ensures { λ r. ⌜ (r ≡ true → (j : ℕ) → j < levels → piece (now (ws .entry)) f levels j .c ≡ none) ⌝ }
+    ensures { λ r. ⌜ r ≡ noneOnly (now (ws .entry)) f levels ⌝ }
 {
     if ws[f] + 1 == levels {
         if ws[f + 3] == quadratic::NONE {

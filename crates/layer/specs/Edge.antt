@@ -132,6 +132,26 @@ spared-kept s n x y z p = record {
   after = λ i h. p .word i (inr (omega arith)) (inr (omega arith)) (inr (omega arith));
 }
 
+-- a list within closer bounds may be taken
+pub curve-sound : {A B base L : ℕ} (C : ℕ) {ws : List ℕ} {o : ℕ} {F : ℕ → ℕ} → A ≤ 1048576 → B ≤ C → Curve A B base L ws o F → Sound C base L ws o
+curve-sound C h g c = curve-costs (curve-wider 1048576 C h g c)
+
+-- three lists side by side, and a list outside them
+pub hand-beside : (s f L size : ℕ) → s + 12 * L ≤ size → (f + 4 * L ≤ s) ⊎ (s + 12 * L ≤ f) → Hand (record { acc = s; next = s + 4 * L; work = s + 8 * L }) f L size
+hand-beside s f L size h g = record {
+  into = record {
+    f-next = ⊎-elim (λ p. inl (omega arith)) (λ p. inr (omega arith)) g;
+    f-work = ⊎-elim (λ p. inl (omega arith)) (λ p. inr (omega arith)) g;
+    next-work = inl (omega arith);
+    room-next = omega arith;
+    room-work = omega arith;
+  };
+  acc-next = inl (omega arith);
+  acc-work = inl (omega arith);
+  f-acc = ⊎-elim (λ p. inl (omega arith)) (λ p. inr (omega arith)) g;
+  room-acc = omega arith;
+}
+
 -- ---- laws of order
 pub apart-swap : (o p len : ℕ) → Apart o p len → Apart p o len
 apart-swap o p len = ⊎-elim (λ h. inr h) (λ h. inl h)
