@@ -1,4 +1,6 @@
 // Functions of the level as plain lists of values, and what the operations make of them, level by level.
+ghost use Prim.Native.Nat.{_<_};
+
 // What stands at i; 0 past the end.
 pub fn get(d: &[u64], i: usize) -> u64 {
     if i < d.len() { d[i] } else { 0 }
@@ -31,6 +33,26 @@ fn distance(x: u64, y: u64) -> u64 {
 fn loss(u: u64, v: u64, w: u64) -> u64 {
     let e = distance(u, v) % 65536;
     w % 256 * (e * e)
+}
+
+// The place of a reading: any, or one among the first 64 levels from base on.
+pub fn place(x: u64, base: u64) -> u64
+    ensures { λ r. ⌜ r < 196608 ⌝ }
+{
+    if x % 4 == 0 {
+        return 131072 + x % 65536;
+    }
+    131072 + (base % 131072 + x / 4 % 64) % 65536
+}
+
+// A weight from 1 to 255, mostly low.
+pub fn weight(x: u64) -> u64
+    ensures { λ r. ⌜ r < 256 ⌝ }
+{
+    if x / 256 % 8 == 0 {
+        return 1 + x / 2048 % 255;
+    }
+    1 + x / 2048 % 4
 }
 
 // Whether an edge leads from index i to j; number 5 stands for the range from gap to j.
@@ -126,17 +148,17 @@ pub fn value(
         return plus(
             here,
             loss(
-                131072 + x % 65536,
+                place(x, base),
                 std::num::wrapping_add_u64(base, j),
-                1 + x % 255,
+                weight(x),
             ),
         );
     }
     if op == 2 {
-        if j < x % 50 {
+        if j < x % 12 {
             return quadratic::NONE;
         }
-        return get(d, std::num::wrapping_add_usize(a, (j - x % 50) as usize));
+        return get(d, std::num::wrapping_add_usize(a, (j - x % 12) as usize));
     }
     if op == 3 {
         return get(

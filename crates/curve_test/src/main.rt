@@ -145,27 +145,38 @@ fn test_least(ws: &[u64], x: u64, a: usize, levels: u64, base: u64) -> u64 {
     )
 }
 
+// The constant that operation 0 puts, none among them; the other operations take z as it is.
+fn constant(op: u64, z: u64) -> u64 {
+    if op != 0 {
+        return z;
+    }
+    if z / 64 % 4 == 0 {
+        return quadratic::NONE;
+    }
+    z / 64 % 1000
+}
+
 // The ith random operation; the first six are constants.
 fn test(ws: &mut [u64], x: u64, i: u64, levels: u64, base: u64) -> u64 {
     if i < 6 {
         return test_one(ws, 0, 0, 0, i as usize, x, levels, base);
     }
     let y = random(x);
-    let op = pick(x, 10);
+    let op = pick(x, 16);
     let a = slot(y, i % 2);
     let b = slot(random(y), i % 2);
     let c = slot(random(random(y)), i % 2 + 1);
     let z = random(random(random(y)));
-    if op == 7 {
+    if op < 7 {
+        return test_one(ws, op, a, b, c, constant(op, z), levels, base);
+    }
+    if op < 10 {
         return test_edge(ws, a, b, c, z, levels, base);
     }
-    if 7 < op {
+    if op < 12 {
         return test_least(ws, z, a, levels, base);
     }
-    if op == 0 {
-        return test_one(ws, 0, a, b, c, quadratic::NONE, levels, base);
-    }
-    test_one(ws, op, a, b, c, z, levels, base)
+    test_one(ws, 1, a, b, c, z, levels, base)
 }
 
 // Random operations on one grid.

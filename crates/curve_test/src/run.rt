@@ -29,11 +29,13 @@ fn on_one(ws: &mut [u64], op: u64, f: usize, dst: usize, x: u64, levels: u64, ba
         return false;
     }
     if op == 1 {
-        curve::add_loss(ws, f, 131072 + x % 65536, 1 + x % 255, dst, levels);
+        let u = crate::direct::place(x, base);
+        let w = crate::direct::weight(x);
+        curve::add_loss(ws, f, u, w, dst, levels);
         return true;
     }
     if op == 2 {
-        curve::shift(ws, f, x % 50, dst, levels);
+        curve::shift(ws, f, x % 12, dst, levels);
         return true;
     }
     if op == 3 {
