@@ -86,13 +86,6 @@ appended-back ws dst n end q p l e =
     let s : n - 1 + 1 ≡ n = omega arith in
     subst (λ (k : ℕ). Appended ws (set ws (dst + 4 * (n - 1)) end) dst k end q k) s (appended-longer ws dst (n - 1) end q (omega arith) e)
 
-mk : ℕ → ℕ → ℕ → Quad
-mk a z c = record { a = a; z = z; c = c }
-
-pub quad-eq : (p q : Quad) → p .a ≡ q .a → p .z ≡ q .z → p .c ≡ q .c → p ≡ q
-unfolding mk
-quad-eq p q ea ez ec = ap (λ (x : ℕ). mk x (p .z) (p .c)) ea ∙ ap (λ (x : ℕ). mk (q .a) x (p .c)) ez ∙ ap (λ (x : ℕ). mk (q .a) (q .z) x) ec
-
 -- ---- the better of two
 pub small : {q : Quad} → Sized q → Small q
 small s = record { count = s .count; sum = s .sum; rest = omega (arith, s .rest) }
@@ -278,21 +271,6 @@ back {ws₀} {ws} {dst} {len} {o} {L} {k} {x} t h l b g p = record {
 
 pub at-most : {ws : List ℕ} {o L i x : ℕ} → At ws o L i x → (f : Formed ws o L) → i ≤ f .count
 at-most a f = omega (arith, a .inside, count-same (a .formed) f)
-
--- ---- the first piece
-pub record First (ws : List ℕ) (o L : ℕ) : Type 0 where
-  pub room : o + 4 ≤ length ws
-  pub to : getD ws o 0 < L
-  pub is : (j : ℕ) → j ≤ getD ws o 0 → piece ws o L j ≡ quadAt ws o
-
-pub first : {ws : List ℕ} {o L : ℕ} → Held ws o L → 0 < L → First ws o L
-first {ws} {o} {L} h l = record { room = omega (arith, h .room, s .within (h .formed)); to = rw z at (s .to); is = λ j p. rw z at (s .is j (omega arith) (rw z p)) }
-  where
-    s : Here ws o L 0 0
-    s = here (at-start (h .formed)) l
-
-    z : o + 4 * 0 ≡ o
-    z = omega arith
 
 -- ---- copying word for word
 pub record Copying (ws₀ ws : List ℕ) (o dst n i : ℕ) : Type 0 where

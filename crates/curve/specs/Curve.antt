@@ -14,10 +14,10 @@ use borrow.Author.Tests.{le-leb, lt-leb, lt-ltb, le-ltb, eq-eqb}
 use Rattle.integers.specs.Rep.{le-or-lt}
 use Rattle.quadratic.specs.declared.Quad.{Quad}
 use Rattle.quadratic.specs.Quad.{up, down, value, none, flat, Small, Sized, Fine, pick, raised, pushed, moved, mirrored, better}
-use Rattle.quadratic.specs.Fine.{Bounds, far, plus, square-most, fine-sized, fine-none, fine-flat, fine-wider, fine-raised, value-raised, fine-pushed, value-pushed, fine-moved, value-moved, mirror-sum, mirror-rest, fine-mirrored, value-mirrored, value-better, fine-better, value-most, kinds}
+use Rattle.quadratic.specs.Fine.{pickN, Bounds, far, plus, square-most, fine-sized, fine-none, fine-flat, fine-wider, fine-raised, value-raised, fine-pushed, value-pushed, fine-moved, value-moved, mirror-sum, mirror-rest, fine-mirrored, value-mirrored, value-better, fine-better, value-most, kinds}
 use Rattle.curve.specs.declared.Low.{Low}
-use Rattle.curve.specs.Pieces.{pickN, piece, Formed, Kept, Same, Apart, Made, Held, Lent, Copied, shiftOf, mirrorOf, Turnable}
-use Rattle.curve.specs.Lists.{same-built, kept-same, opened, count-most, closed, copied-built}
+use Rattle.curve.specs.Pieces.{piece, noneOnly, Formed, Kept, Same, Apart, Made, Held, Lent, Copyable, Copied, shiftOf, mirrorOf, Turnable}
+use Rattle.curve.specs.Lists.{same-built, kept-same, opened, count-most, closed, copied-built, none-only}
 use Rattle.curve.specs.Lows.{top, costs, Least, LeastIn, lowest, prefixOf, lowest-zero, lowest-new, lowest-old, lowest-among, prefix-new, prefix-old}
 
 -- a piece that costs x at v
@@ -94,11 +94,14 @@ module _ {A B base L : ℕ} (l : Limits A B base L) {ws : List ℕ} {o : ℕ} {F
   curve-most j h = ⊎-elim (λ e. omega arith) (λ e. omega (arith, l .cost)) (curve-value j h)
 
   -- a piece whose constant is none is none
-  pub curve-none : (j : ℕ) → j < L → piece ws o L j .c ≡ none → F j ≡ none
-  curve-none j h p = ⊎-elim
+  none-there : (j : ℕ) → j < L → piece ws o L j .c ≡ none → F j ≡ none
+  none-there j h p = ⊎-elim
       (λ e. sym (c .at j h .is) ∙ subst (λ (q : Quad). value q (base + j) ≡ none) (sym e) (omega arith))
       (λ e. let z : eqb none none ≡ false = rw p at (e .0) in let y : _≡_ {A = ℕ} 0 1 = cc (eq-eqb none none refl) in absurd (omega arith))
       (kinds (bounds l j h) (c .at j h .fine))
+
+  pub curve-none : noneOnly ws o L ≡ true → (j : ℕ) → j < L → F j ≡ none
+  curve-none e j h = none-there j h (none-only (c .held) (omega arith) e j h)
 
   pub curve-turnable : (j : ℕ) → j < L → Turnable (2 * base + (L - 1)) (piece ws o L j)
   curve-turnable j h =
@@ -214,6 +217,11 @@ slots-apart len i k n = ⊎-elim (λ h. inr (above i k h)) (λ h. inl (above k i
 
     above : (i k : ℕ) → k < i → k * len + len ≤ i * len
     above i k h = omega (arith, mul-le-mul-right len h)
+
+-- a copy may be made where there is room for the pieces that exist
+pub curve-copyable : {A B base L : ℕ} {ws : List ℕ} {o : ℕ} {F : ℕ → ℕ} (dst : ℕ) (c : Curve A B base L ws o F) → dst + 4 * c .held .formed .count ≤ length ws
+    → (o + 4 * c .held .formed .count ≤ dst) ⊎ (dst + 4 * c .held .formed .count ≤ o) → Copyable ws o dst L
+curve-copyable dst c r a = record { formed = c .held .formed; room = c .held .room; into = r; apart = a }
 
 -- a copy, of as many pieces
 pub copied-curve : {A B base L : ℕ} {ws ws′ : List ℕ} {o dst r : ℕ} {F : ℕ → ℕ} → dst + 4 * r ≤ length ws → Copied ws ws′ o dst L r → Curve A B base L ws o F → Curve A B base L ws′ dst F

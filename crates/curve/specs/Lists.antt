@@ -1,17 +1,20 @@
 -- Laws of lists of pieces. Assumes nothing.
 use mathlib.Core.Path.{_≡_, refl, sym, ap, _∙_, subst}
 use mathlib.Core.Logic.{_⊎_, inl, inr, ⊎-elim}
+use mathlib.Core.Bool.{Bool, true, false, cond}
 use mathlib.Core.List.{List}
 use Prim.Native.Nat.{ℕ, zero, suc, _+_, _*_, _-_, _≤_, _<_}
 use native.Mathlib.Nat.{eq-or-lt-of-le}
 use native.Mathlib.Numerals.{add-one}
 use native.Mathlib.Omega.{arith}
-use lib.Dec.{leb}
+use lib.Dec.{leb, eqb}
 use lib.ListN.{length, getD}
-use borrow.Author.Tests.{le-leb, lt-leb}
+use borrow.Author.Tests.{le-leb, lt-leb, eqb-true}
 use Rattle.integers.specs.Rep.{le-or-lt}
+use Rattle.quadratic.specs.Fine.{pickN}
 use Rattle.quadratic.specs.declared.Quad.{Quad}
-use Rattle.curve.specs.Pieces.{endOf, startOf, quadAt, pickN, seek, piece, Formed, Built, Is, Kept, Same, Apart, Stored, Appended, Emits, Made, Held, Lent, Copied}
+use Rattle.quadratic.specs.Quad.{none}
+use Rattle.curve.specs.Pieces.{endOf, startOf, quadAt, seek, piece, noneOnly, Formed, Built, Is, Kept, Same, Apart, Stored, Appended, Emits, Made, Held, Lent, Copied}
 
 pub start-next : (ws : List ℕ) (o k : ℕ) → startOf ws o (k + 1) ≡ endOf ws o k + 1
 unfolding startOf
@@ -197,6 +200,44 @@ count-same f g = omega (arith, built-most f (opened g) (omega arith), built-most
 
 pub count-is : {P : ℕ → Quad → Type 0} {ws : List ℕ} {o L r : ℕ} → Built P ws o r L → (f : Formed ws o L) → r ≡ f .count
 count-is {r = r} b f = omega (arith, built-most f b (omega arith), built-most (record { count = r; ends = b .ends; rising = b .rising }) (opened f) (omega arith))
+
+-- ---- the first piece
+pub record First (ws : List ℕ) (o L : ℕ) : Type 0 where
+  pub room : o + 4 ≤ length ws
+  pub to : getD ws o 0 < L
+  pub is : (j : ℕ) → j ≤ getD ws o 0 → piece ws o L j ≡ quadAt ws o
+
+pub first : {ws : List ℕ} {o L : ℕ} → Held ws o L → 0 < L → First ws o L
+first {ws} {o} {L} h l = record {
+  room = omega (arith, h .room, some);
+  to = rw z at (omega-lt (end-lt ws o (f .count) (f .rising) 0 (f .count) some (omega arith)) (f .ends));
+  is = λ j p. rw z at (piece-at ws o L (f .count) 0 j (f .rising) (count-most f) some (omega (arith, start-zero ws o)) (rw z p));
+}
+  where
+    f : Formed ws o L
+    f = h .formed
+
+    z : o + 4 * 0 ≡ o
+    z = omega arith
+
+    omega-lt : {e s : ℕ} → e < s → s ≡ L → e < L
+    omega-lt p q = omega arith
+
+    some : 0 < f .count
+    some = ⊎-elim (λ p. absurd (nil p)) (λ p. p) (le-or-lt (f .count) 0)
+      where
+        nil : f .count ≤ 0 → ⊥
+        nil p = let e : f .count ≡ 0 = omega arith in let q : startOf ws o 0 ≡ L = rw e at (f .ends) in omega (arith, start-zero ws o)
+
+-- a list that is one piece, none, is none at every level
+pub none-only : {ws : List ℕ} {o L : ℕ} → Held ws o L → 0 < L → noneOnly ws o L ≡ true → (j : ℕ) → j < L → piece ws o L j .c ≡ none
+unfolding noneOnly
+none-only {ws} {o} {L} h l e j k = go (eqb (getD ws o 0 + 1) L) refl (eqb (getD ws (o + 3) 0) none) refl e
+  where
+    go : (a : Bool) → eqb (getD ws o 0 + 1) L ≡ a → (b : Bool) → eqb (getD ws (o + 3) 0) none ≡ b → cond a b false ≡ true → piece ws o L j .c ≡ none
+    go true p true q r = ap (λ (t : Quad). t .c) (first h l .is j (omega (arith, eqb-true (getD ws o 0 + 1) L p))) ∙ eqb-true (getD ws (o + 3) 0) none q
+    go true p false q r = let y : _≡_ {A = ℕ} 0 1 = cc in absurd (omega arith)
+    go false p b q r = let y : _≡_ {A = ℕ} 0 1 = cc in absurd (omega arith)
 
 -- ---- emitting
 pub emits-none : (F : ℕ → Quad) (ws : List ℕ) (dst n x : ℕ) → Emits F ws ws dst n x x n

@@ -9,10 +9,11 @@ use lib.Dec.{ltb}
 use borrow.Author.Tests.{lt-ltb, le-ltb}
 use Rattle.integers.specs.Rep.{le-or-lt}
 use Rattle.quadratic.specs.declared.Quad.{Quad}
+use Rattle.quadratic.specs.Fine.{pickN}
 use Rattle.quadratic.specs.Quad.{value, none, flat, pick, Fine, up, down, Under, Over}
 use Rattle.curve.specs.declared.Low.{Low}
 use Rattle.curve.specs.declared.Run.{Run}
-use Rattle.curve.specs.Pieces.{pickN, piece, Emits}
+use Rattle.curve.specs.Pieces.{piece, Emits}
 
 -- more than any value
 abbrev pub top : ℕ

@@ -2,12 +2,13 @@
 -- last one L − 1. What a list says at a level is the quadratic in force there, `piece`. Assumes nothing.
 use mathlib.Core.Path.{_≡_}
 use mathlib.Core.Logic.{_⊎_}
-use mathlib.Core.Bool.{Bool, true, false}
+use mathlib.Core.Bool.{Bool, true, false, cond}
 use mathlib.Core.List.{List}
 use Prim.Native.Nat.{ℕ, zero, suc, _+_, _*_, _-_, _≤_, _<_}
-use lib.Dec.{leb}
+use lib.Dec.{leb, eqb}
 use lib.ListN.{length, getD}
 use Rattle.quadratic.specs.declared.Quad.{Quad}
+use Rattle.quadratic.specs.Fine.{pickN}
 use Rattle.quadratic.specs.Quad.{Sized, pick, flat, none, moved, mirrored}
 
 -- the last level of the kth piece of the list at o, and its first
@@ -21,10 +22,6 @@ startOf ws o (suc k) = endOf ws o k + 1
 abbrev pub quadAt : List ℕ → ℕ → Quad
 quadAt ws i = record { a = getD ws (i + 1) 0; z = getD ws (i + 2) 0; c = getD ws (i + 3) 0 }
 
-abbrev pub pickN : Bool → ℕ → ℕ → ℕ
-pickN true a b = a
-pickN false a b = b
-
 -- where the piece in force at level j begins, among the n pieces from o on
 unfoldable pub seek : ℕ → List ℕ → ℕ → ℕ → ℕ
 seek zero ws o j = o
@@ -33,6 +30,10 @@ seek (suc n) ws o j = pickN (leb j (getD ws o 0)) o (seek n ws (o + 4) j)
 -- the quadratic in force at level j of the list at o, over L levels
 unfoldable pub piece : List ℕ → ℕ → ℕ → ℕ → Quad
 piece ws o L j = quadAt ws (seek L ws o j)
+
+-- whether the list at o is one piece, none
+unfoldable pub noneOnly : List ℕ → ℕ → ℕ → Bool
+noneOnly ws o L = cond (eqb (getD ws o 0 + 1) L) (eqb (getD ws (o + 3) 0) none) false
 
 -- there is a list over L levels at o
 pub record Formed (ws : List ℕ) (o L : ℕ) : Type 0 where

@@ -1,4 +1,15 @@
-// Cost functions as lists of pieces in a lent workspace.
+// Cost functions of the level as lists of pieces in a lent workspace.
+//
+// A list over L levels starts at a word of the workspace. A piece is four words: the index of its last level, then a, z and c of the
+// quadratic in force up to there. Last levels rise, and the piece that ends at L - 1 is the last: no header, at most L pieces. "None" is
+// the constant 2^60. Equal neighbours are joined on writing; searches would be many times slower without.
+//
+// Convention: `f` and `g` are lists that are read, `dst` is where a list is written, `levels` is L and `base` the place of level 0. A list
+// that is written has the 4 L words from dst on, and no other word changes (`Kept`). A list that is read shares no word with them
+// (`Lent`), so dst is never a source. Only `copy` writes just the words that its source has, so that saved lists can stand end to end.
+//
+// An inner crate: overlap and ranges are `requires` of its functions. specs/Curve.antt has the laws that give them (`curve-reads`,
+// `curve-sized`, ..) and say what each result costs at each level (`curve-least`, `curve-shift`, ..).
 use quadratic::Quad;
 ghost use mathlib.Core.Path.{_≡_};
 ghost use mathlib.Core.Bool.{true, false};
@@ -7,7 +18,7 @@ ghost use Prim.Native.Nat.{ℕ, _+_, _*_, _-_, _≤_, _<_};
 ghost use lib.ListN.{length, getD};
 ghost use Rattle.quadratic.specs.Quad.{Small, Sized, Fine, raised, pushed, moved, mirrored, better, value, flat, none, up, down, Over};
 ghost use Rattle.curve.specs.Lows.{LeastIn, Drops, Prefixed, Lowered, prefixOf, costs, lowest};
-ghost use Rattle.curve.specs.Pieces.{quadAt, Kept, Built, Is, Formed, piece, Stored, Appended, Emits, Made, Apart, Held, Lent, Copyable, Copied, startOf, endOf, endsBelow, shiftOf, mirrorOf, Turnable};
+ghost use Rattle.curve.specs.Pieces.{noneOnly, quadAt, Kept, Built, Is, Formed, piece, Stored, Appended, Emits, Made, Apart, Held, Lent, Copyable, Copied, startOf, endOf, endsBelow, shiftOf, mirrorOf, Turnable};
 
 // The piece at a place, without its end.
 fn load(ws: &[u64], at: usize) -> Quad
@@ -21,7 +32,7 @@ fn load(ws: &[u64], at: usize) -> Quad
     }
 }
 
-// Put there, with its end.
+// A piece put at a place, with its end.
 fn store(ws: &mut [u64], at: usize, end: u64, q: Quad)
     requires { ⌜ at + 4 ≤ length (now ws) ⌝ }
     ensures { λ r. ⌜ Stored (now (ws .entry)) (now (ws .exit)) at end q ⌝ }
@@ -32,7 +43,7 @@ fn store(ws: &mut [u64], at: usize, end: u64, q: Quad)
     ws[at + 3] = q.c;
 }
 
-// Whether two are the same.
+// Whether two quadratics are the same.
 fn same(p: Quad, q: Quad) -> bool
     ensures { λ r. ⌜ (r ≡ true → p ≡ q) ⌝ }
 {
@@ -265,7 +276,7 @@ pub struct Run {
     pub best: u64,
 }
 
-// The first level of [a, v] at which p is less than best, where it is so at v.
+// The first level of [a, v] at which p is less than best. It is so at v, and p falls up to there.
 fn first_below(p: Quad, best: u64, a: u64, v: u64, base: u64) -> u64
     requires { ⌜ (Small p × (best ≤ 1152921504606846977)) × ((a ≤ v) × (base + v < 262144)) ⌝ }
     requires { ⌜ Over (flat best) p (base + v) ⌝ }
@@ -415,10 +426,10 @@ pub fn value_at(ws: &[u64], f: usize, j: u64, levels: u64, base: u64) -> u64
     least_in(ws, f, j, j, levels, base).value
 }
 
-// Whether f is one piece, none. (Equal neighbours are joined, so a list that is none everywhere is.)
+// Whether f is one piece, none. Since equal neighbours are joined, a list that is none everywhere is; a wrong no would cost time only.
 pub fn all_none(ws: &[u64], f: usize, levels: u64) -> bool
     requires { ⌜ Held (now ws) f levels × ((0 < levels) × (levels ≤ 262144)) ⌝ }
-    ensures { λ r. ⌜ (r ≡ true → (j : ℕ) → j < levels → piece (now (ws .entry)) f levels j .c ≡ none) ⌝ }
+    ensures { λ r. ⌜ r ≡ noneOnly (now (ws .entry)) f levels ⌝ }
 {
     if ws[f] + 1 == levels {
         if ws[f + 3] == quadratic::NONE {

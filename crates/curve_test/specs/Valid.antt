@@ -12,7 +12,7 @@ use Rattle.quadratic.specs.Quad.{Fine}
 use Rattle.curve.specs.Pieces.{piece, Built, Formed, Held, Same, Apart, Copyable}
 use Rattle.curve.specs.Lists.{closed, count-le, count-most}
 use Rattle.curve.specs.Lows.{costs}
-use Rattle.curve.specs.Curve.{Curve, Limits, curve-wider}
+use Rattle.curve.specs.Curve.{Curve, Limits, curve-wider, curve-copyable}
 use Rattle.layer.specs.declared.Temps.{Temps}
 use Rattle.layer.specs.Edge.{Sound, Hand, Into, Ready}
 
@@ -76,12 +76,9 @@ pub sound : {ws : List ℕ} {o L base : ℕ} → Valid ws o L base → Sound 180
 sound v = curve-wider 1048576 18014398509481984 (omega arith) (omega arith) (v .list)
 
 pub copyable : {ws : List ℕ} {o L base : ℕ} → Valid ws o L base → (dst : ℕ) → Apart o dst (4 * L) → dst + 4 * L ≤ length ws → Copyable ws o dst L
-copyable v dst a r = record {
-  formed = v .list .held .formed;
-  room = v .list .held .room;
-  into = omega (arith, count-most (v .list .held .formed));
-  apart = ⊎-elim (λ h. inl (omega (arith, count-most (v .list .held .formed)))) (λ h. inr (omega (arith, count-most (v .list .held .formed)))) a;
-}
+copyable v dst a r =
+    let n = count-most (v .list .held .formed) in
+    curve-copyable dst (v .list) (omega arith) (⊎-elim (λ h. inl (omega arith)) (λ h. inr (omega arith)) a)
 
 pub ready : {ws : List ℕ} {t : Temps} {f pen L base : ℕ} → Separate t f L → Valid ws (t .acc) L base → Valid ws f L base → t .next + 4 * L ≤ length ws → t .work + 4 * L ≤ length ws → pen ≤ 1048576 → Ready t f pen base L ws
 ready {pen = pen} s a v n w p = record {

@@ -1,6 +1,5 @@
 // Functions of the level as plain lists of values, and what the operations make of them, level by level.
-ghost use mathlib.Core.Path.{_≡_};
-ghost use Prim.Native.Nat.{_+_, _≤_, _<_};
+ghost use Prim.Native.Nat.{_<_};
 
 // What stands at i; 0 past the end.
 pub fn get(d: &[u64], i: usize) -> u64 {
@@ -34,6 +33,26 @@ fn distance(x: u64, y: u64) -> u64 {
 fn loss(u: u64, v: u64, w: u64) -> u64 {
     let e = distance(u, v) % 65536;
     w % 256 * (e * e)
+}
+
+// The place of a reading: any, or one among the first 64 levels from base on.
+pub fn place(x: u64, base: u64) -> u64
+    ensures { λ r. ⌜ r < 196608 ⌝ }
+{
+    if x % 4 == 0 {
+        return 131072 + x % 65536;
+    }
+    131072 + (base % 131072 + x / 4 % 64) % 65536
+}
+
+// A weight from 1 to 255, mostly low.
+pub fn weight(x: u64) -> u64
+    ensures { λ r. ⌜ r < 256 ⌝ }
+{
+    if x / 256 % 8 == 0 {
+        return 1 + x / 2048 % 255;
+    }
+    1 + x / 2048 % 4
 }
 
 // Whether an edge leads from index i to j; number 5 stands for the range from gap to j.
@@ -77,8 +96,8 @@ pub fn first_least(d: &[u64], at: usize, number: u64, gap: u64, j: u64, levels: 
     found
 }
 
-// What an edge makes of the values at a, taken into those at acc, at level j.
-pub fn edge_value(
+// The values at acc and, with pen added, those at a over an edge: the lesser at level j.
+fn edge_value(
     d: &[u64],
     number: u64,
     gap: u64,
@@ -110,11 +129,18 @@ fn least_to(d: &[u64], a: usize, j: u64) -> u64 {
     lesser(best, get(d, std::num::wrapping_add_usize(a, j as usize)))
 }
 
-// What operation op makes of the values at a, and at b, at level j.
-pub fn value(d: &[u64], op: u64, a: usize, b: usize, x: u64, j: u64, levels: u64, base: u64) -> u64
-    requires { ⌜ (j < levels) × ((levels ≤ 1024) × ((a ≤ 1048576) × (b ≤ 1048576))) ⌝ }
-{
-    let here = get(d, a + (j as usize));
+// What operation op makes of the values at a, and at b, at level j. From 10 on op is an edge of kind op - 10.
+pub fn value(
+    d: &[u64],
+    op: u64,
+    a: usize,
+    b: usize,
+    x: u64,
+    j: u64,
+    levels: u64,
+    base: u64,
+) -> u64 {
+    let here = get(d, std::num::wrapping_add_usize(a, j as usize));
     if op == 0 {
         return x;
     }
@@ -122,27 +148,36 @@ pub fn value(d: &[u64], op: u64, a: usize, b: usize, x: u64, j: u64, levels: u64
         return plus(
             here,
             loss(
-                131072 + x % 65536,
+                place(x, base),
                 std::num::wrapping_add_u64(base, j),
-                1 + x % 255,
+                weight(x),
             ),
         );
     }
     if op == 2 {
-        let gap = x % 50;
-        if j < gap {
+        if j < x % 12 {
             return quadratic::NONE;
         }
-        return get(d, a + ((j - gap) as usize));
+        return get(d, std::num::wrapping_add_usize(a, (j - x % 12) as usize));
     }
     if op == 3 {
-        return get(d, a + ((levels - 1 - j) as usize));
+        return get(
+            d,
+            std::num::wrapping_add_usize(
+                a,
+                std::num::wrapping_sub_u64(levels, std::num::wrapping_add_u64(j, 1)) as usize,
+            ),
+        );
     }
     if op == 4 {
         return least_to(d, a, j);
     }
     if op == 5 {
-        return lesser(here, plus(get(d, b + (j as usize)), x));
+        let there = get(d, std::num::wrapping_add_usize(b, j as usize));
+        return lesser(here, plus(there, x % 1048576));
     }
-    here
+    if op < 10 {
+        return here;
+    }
+    edge_value(d, op - 10, x % 64, x / 64 % 1024, a, b, j, levels)
 }

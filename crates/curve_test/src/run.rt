@@ -9,7 +9,7 @@ ghost use Rattle.plan.specs.Build.{gapOf};
 ghost use Rattle.curve_test.specs.Valid.{Separate};
 
 // A constant; false where there is no room.
-pub fn constant(ws: &mut [u64], dst: usize, x: u64, levels: u64) -> bool {
+fn constant(ws: &mut [u64], dst: usize, x: u64, levels: u64) -> bool {
     if !crate::list::room(ws, dst, levels) {
         return false;
     }
@@ -18,15 +18,7 @@ pub fn constant(ws: &mut [u64], dst: usize, x: u64, levels: u64) -> bool {
 }
 
 // An operation on the list at f; false where it is not one that may be taken.
-pub fn on_one(
-    ws: &mut [u64],
-    op: u64,
-    f: usize,
-    dst: usize,
-    x: u64,
-    levels: u64,
-    base: u64,
-) -> bool {
+fn on_one(ws: &mut [u64], op: u64, f: usize, dst: usize, x: u64, levels: u64, base: u64) -> bool {
     if !crate::list::valid(ws, f, levels, base) {
         return false;
     }
@@ -37,11 +29,13 @@ pub fn on_one(
         return false;
     }
     if op == 1 {
-        curve::add_loss(ws, f, 131072 + x % 65536, 1 + x % 255, dst, levels);
+        let u = crate::direct::place(x, base);
+        let w = crate::direct::weight(x);
+        curve::add_loss(ws, f, u, w, dst, levels);
         return true;
     }
     if op == 2 {
-        curve::shift(ws, f, x % 50, dst, levels);
+        curve::shift(ws, f, x % 12, dst, levels);
         return true;
     }
     if op == 3 {
@@ -57,7 +51,7 @@ pub fn on_one(
 }
 
 // The least of two lists, with a penalty on the second.
-pub fn on_two(
+fn on_two(
     ws: &mut [u64],
     f: usize,
     g: usize,
@@ -81,11 +75,28 @@ pub fn on_two(
     if !crate::list::room(ws, dst, levels) {
         return false;
     }
-    if 1048576 < pen {
-        return false;
-    }
-    curve::least_of_two(ws, f, g, pen, dst, levels, base);
+    curve::least_of_two(ws, f, g, pen % 1048576, dst, levels, base);
     true
+}
+
+// Operation op on the lists at f and g.
+pub fn operate(
+    ws: &mut [u64],
+    op: u64,
+    f: usize,
+    g: usize,
+    dst: usize,
+    x: u64,
+    levels: u64,
+    base: u64,
+) -> bool {
+    if op == 0 {
+        return constant(ws, dst, x, levels);
+    }
+    if op == 5 {
+        return on_two(ws, f, g, dst, x, levels, base);
+    }
+    on_one(ws, op, f, dst, x, levels, base)
 }
 
 // Whether the temporary lists and the one at f share no word.

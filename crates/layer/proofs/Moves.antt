@@ -10,9 +10,9 @@ use lib.ListN.{length}
 use borrow.Author.Tests.{le-leb, lt-leb, lt-ltb, le-ltb}
 use Rattle.integers.specs.Rep.{le-or-lt}
 use Rattle.quadratic.specs.Quad.{better, raised, pushed, flat, none}
-use Rattle.quadratic.specs.Fine.{far}
+use Rattle.quadratic.specs.Fine.{pickN, far}
 use Rattle.curve.specs.declared.Low.{Low}
-use Rattle.curve.specs.Pieces.{pickN, piece, Kept, Made, shiftOf, mirrorOf}
+use Rattle.curve.specs.Pieces.{piece, noneOnly, Kept, Made, shiftOf, mirrorOf}
 use Rattle.curve.specs.Lows.{lowest, prefixOf, costs, LeastIn, Least}
 use Rattle.curve.specs.Curve.{Curve, Limits, curve-as, curve-prefix, curve-shift, curve-mirror, curve-least, curve-loss, curve-flat, curve-wider, curve-costs, curve-none, curve-most, curve-value, curve-least-in}
 use Rattle.plan.specs.declared.Kind.{Kind}
@@ -213,7 +213,7 @@ pub abs-edge : {pen base L f : ℕ} {ws w1 w2 : List ℕ} {t u r : Temps} (k : K
 abs-edge {pen} {L = L} k g e y a b = rw e (taken-both y a (edgeMin L (Abs g)) b (λ A C G l h c j i. abs-is l c pen h g j i))
 
 -- a list that is none everywhere
-pub none-taken : {pen base L f : ℕ} {ws : List ℕ} (k : Kind) {t : Temps} → ((j : ℕ) → j < L → piece ws f L j .c ≡ none) → Taken (edgeMin L k) pen base L ws ws f t t
+pub none-taken : {pen base L f : ℕ} {ws : List ℕ} (k : Kind) {t : Temps} → noneOnly ws f L ≡ true → Taken (edgeMin L k) pen base L ws ws f t t
 none-taken {pen} {base} {L} {f} {ws} k {t} e = record {
   order = inl refl;
   spared = spared-refl (t .acc) (t .next) (t .work) L ws;
@@ -224,7 +224,7 @@ none-taken {pen} {base} {L} {f} {ws} k {t} e = record {
     left x y a b = let z : raise y pen ≡ y = raise-none y pen b in rw z (omega arith)
 
     offers : {A C : ℕ} {G : ℕ → ℕ} → Limits A C base L → Curve A C base L ws f G → (j : ℕ) → j < L → none ≤ edgeMin L k G j
-    offers {G = G} l c j i = edge-min-none L (omega arith) k G j i (λ x g p. omega (arith, curve-none l c x g (e x g)))
+    offers {G = G} l c j i = edge-min-none L (omega arith) k G j i (λ x g p. omega (arith, curve-none l c e x g))
 
 -- ---- the gap of a kind
 pub gap-up : (k : Kind) (g : ℕ) → k ≡ Up g → gapOf k ≤ 1023 → g < 1024

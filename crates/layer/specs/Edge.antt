@@ -13,8 +13,8 @@ use borrow.Author.Tests.{le-leb, lt-leb, lt-ltb, le-ltb, eq-eqb, ne-eqb}
 use lib.IntN.{ℤ, pos, _+ℤ_}
 use Rattle.integers.specs.Rep.{le-or-lt, iz, nz, _⊕_, eqN, eqZ}
 use Rattle.quadratic.specs.Quad.{none}
-use Rattle.quadratic.specs.Fine.{plus, far, far-signed, square-most}
-use Rattle.curve.specs.Pieces.{pickN, piece, Kept, Same, Apart}
+use Rattle.quadratic.specs.Fine.{pickN, plus, far, far-signed, square-most}
+use Rattle.curve.specs.Pieces.{piece, Kept, Same, Apart}
 use Rattle.curve.specs.Lists.{kept-same, count-most}
 use Rattle.curve.specs.Lows.{costs, lowest, top, lowest-zero, lowest-new, lowest-old}
 use Rattle.curve.specs.Curve.{Curve, Limits, less, curve-same, curve-costs, curve-wider}

@@ -6,19 +6,10 @@ use native.Mathlib.Nat.{mul-le-mul, mul-le-mul-left, mul-lt-mul-of-pos-left, lt-
 use native.Mathlib.Omega.{arith}
 use lib.IntN.{ℤ, pos, _+ℤ_, _-ℤ_, _*ℤ_}
 use lib.Signed.{_≤ℤ_, _<ℤ_}
-use Rattle.integers.specs.Rep.{iz, nz, _⊕_, _⊖_, _⊗_, leN, ltN}
+use Rattle.integers.specs.Rep.{le-or-lt, iz, nz, _⊕_, _⊖_, _⊗_, leN, ltN}
 use Rattle.quadratic.specs.Level.{Placed}
 use Rattle.quadratic.specs.declared.Quad.{Quad}
 use Rattle.quadratic.specs.Quad.{Small, Fine, Lowest, Cut, Turns, Stays, Halved, up, down, AtMost, Less, Under, Over}
-
-pub le-or-lt : (a b : ℕ) → (a ≤ b) ⊎ (b < a)
-le-or-lt zero b = inl (omega arith)
-le-or-lt (suc a) zero = inr (omega arith)
-le-or-lt (suc a) (suc b) = ⊎-elim (λ p. inl (omega arith)) (λ q. inr (omega arith)) (le-or-lt a b)
-
--- ---- bounds of products
-pub prod≤ : (a b m n : ℕ) → a ≤ m → b ≤ n → a * b ≤ m * n
-prod≤ a b m n = mul-le-mul
 
 -- ---- a quotient rounded down on signed levels, at its place
 pub cut-of : (p q d x y r : ℕ) (m : ℤ) → (m *ℤ pos d) ≤ℤ (pos p -ℤ pos (q + d * 163840)) → (pos p -ℤ pos (q + d * 163840)) <ℤ ((m +ℤ pos 1) *ℤ pos d) → Placed m x y r → Cut p q d x y r

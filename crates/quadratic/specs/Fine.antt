@@ -19,7 +19,7 @@ pub quad-eq : (p r : Quad) → p .a ≡ r .a → p .z ≡ r .z → p .c ≡ r .c
 unfolding mk
 quad-eq p r ea ez ec = ap (λ (x : ℕ). mk x (p .z) (p .c)) ea ∙ ap (λ (x : ℕ). mk (r .a) x (p .c)) ez ∙ ap (λ (x : ℕ). mk (r .a) (r .z) x) ec
 
-prod≤ : (a b m n : ℕ) → a ≤ m → b ≤ n → a * b ≤ m * n
+pub prod≤ : (a b m n : ℕ) → a ≤ m → b ≤ n → a * b ≤ m * n
 prod≤ a b m n = mul-le-mul
 
 -- the bounds of the whole search

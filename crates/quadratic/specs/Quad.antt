@@ -23,12 +23,6 @@ none = 1152921504606846976
 abbrev pub flat : ℕ → Quad
 flat x = record { a = 0; z = 0; c = x }
 
-abbrev pub ground : ℕ
-ground = 131072
-
-abbrev pub ceiling : ℕ
-ceiling = 262144
-
 -- the ranges within which nothing that is computed wraps
 pub record Small (q : Quad) : Type 0 where
   pub count : q .a ≤ 1048576

@@ -1,4 +1,9 @@
-// Quadratics on the places of signed levels, counted from -163840: all unsigned.
+// Whole-number quadratics a v² - 2 z v + c on the places v = m + 163840 of signed levels m. With that bias no coefficient falls
+// below zero under shifts and mirrors, so a, z and c are unsigned. Crossings and turning points are computed on the signed levels, by
+// floor division.
+//
+// An inner crate: each function requires the range of its quadratics (`Small`), and the callers' invariant (`Fine`) gives it.
+// specs/Fine.antt has the laws that each operation keeps the invariant, and what it does to the value.
 ghost use mathlib.Core.Path.{_≡_};
 ghost use mathlib.Core.Bool.{true, false};
 ghost use Prim.Native.Nat.{ℕ, _+_, _*_, _-_, _≤_, _<_};
@@ -7,6 +12,7 @@ ghost use lib.IntN.{pos, _-ℤ_};
 ghost use Rattle.quadratic.specs.Level.{Placed};
 ghost use Rattle.quadratic.specs.Quad.{Small, Fine, Lowest, Cut, Turns, Stays, Halved, raised, pushed, moved, mirrored, up, down, Under, Over, value};
 
+// The cost of what is not there, 2^60: sums and minima treat it as a number, `raise` and `add_square` leave it.
 pub const NONE: u64 = 1152921504606846976;
 
 pub struct Quad {
@@ -15,7 +21,7 @@ pub struct Quad {
     pub c: u64,
 }
 
-// The halves of a value.
+// The two parts of a value, which is rise less fall.
 fn rise(a: u64, c: u64, v: u64) -> u64
     requires { ⌜ (a ≤ 1048576) × ((c < 2305843009213693952) × (v < 262144)) ⌝ }
     ensures { λ r. ⌜ (r ≡ a * (v * v) + c) × (r ≤ 2377900603251621888) ⌝ }
@@ -70,7 +76,7 @@ fn place(m: i64, x: u64, y: u64) -> u64
     }
 }
 
-// (p - q) / d on signed levels, rounded down: its place within [x, y].
+// (p - q) / d is computed on signed levels and rounded down: its place, or the end of [x, y] that is nearest to it.
 pub fn cut(p: u64, q: u64, d: u64, x: u64, y: u64) -> u64
     requires { ⌜ ((p < 2305843009213693952) × (q < 2305843009213693952)) × ((0 < d) × (d ≤ 2199023255552)) ⌝ }
     requires { ⌜ (x ≤ y) × (y < 262144) ⌝ }
@@ -81,7 +87,7 @@ pub fn cut(p: u64, q: u64, d: u64, x: u64, y: u64) -> u64
     place(m, x, y)
 }
 
-// Where the slope turns, clamped.
+// The first place of [x, y] at which e v² - 2 (f - g) v is least: its turning point, rounded, the lower one of two that tie.
 pub fn turning_point(e: u64, f: u64, g: u64, x: u64, y: u64) -> u64
     requires { ⌜ ((0 < e) × (e ≤ 1048576)) × ((f ≤ 549755813888) × (g ≤ 549755813888)) ⌝ }
     requires { ⌜ (x ≤ y) × (y < 262144) ⌝ }
@@ -104,7 +110,7 @@ pub fn lowest_min(q: Quad, x: u64, y: u64) -> u64
     turning_point(q.a, q.z, 0, x, y)
 }
 
-// The last level under, where lo is under and hi is over.
+// The last place at which w is at most l, where it is so at lo, not so at hi, and changes once between.
 pub fn bisect(w: Quad, l: Quad, lo: u64, hi: u64) -> u64
     requires { ⌜ (Small w × Small l) × ((lo < hi) × (hi < 262144)) ⌝ }
     requires { ⌜ Under w l lo × Over w l hi ⌝ }
@@ -123,7 +129,7 @@ pub fn bisect(w: Quad, l: Quad, lo: u64, hi: u64) -> u64
     b
 }
 
-// How far from x on w stays at most l.
+// How far from x on w stays at most l: the last place before it is over, or y.
 pub fn crossing(w: Quad, l: Quad, x: u64, y: u64) -> u64
     requires { ⌜ (Small w × Small l) × ((x ≤ y) × (y < 262144)) ⌝ }
     requires { ⌜ Under w l x ⌝ }

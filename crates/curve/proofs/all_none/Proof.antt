@@ -1,10 +1,9 @@
--- `curve::all_none`: the first piece is the last. Assumes nothing.
-use mathlib.Core.Path.{_≡_, ap, _∙_}
-use Prim.Native.Nat.{ℕ}
+-- `curve::all_none`: by its tests. Assumes nothing.
 use native.Mathlib.Omega.{arith}
 use borrow.Author.Needs.{needs}
-use Rattle.quadratic.specs.declared.Quad.{Quad}
-use Rattle.curve.proofs.Laws.{First, first}
+use borrow.Author.Tests.{eq-eqb, ne-eqb}
+use Rattle.curve.specs.Pieces.{noneOnly}
+use Rattle.curve.specs.Lists.{First, first}
 use Rattle.curve.proofs.all_none.Statement.{statement}
 use Rattle.curve.proofs.all_none.Tie as tie
 
@@ -30,13 +29,16 @@ shared-slice-read-if2 : tie.Need-shared-slice-read-if2
 shared-slice-read-if2 c = omega (arith, one (c .before .before .before) .room)
 
 returns : tie.Need-returns
-returns c = λ e j h. ap (λ (q : Quad). q .c) (one (c .before .before .before .before) .is j (omega (arith, c .before .before .if1 .taken))) ∙ c .if2 .taken
+unfolding noneOnly
+returns c = rw (eq-eqb _ _ (c .before .before .if1 .taken), eq-eqb _ _ (c .if2 .taken))
 
 returns-2 : tie.Need-returns-2
-returns-2 c = λ e. let z : _≡_ {A = ℕ} 0 1 = cc in absurd (omega arith)
+unfolding noneOnly
+returns-2 c = rw (eq-eqb _ _ (c .before .before .if1 .taken), ne-eqb _ _ (c .if2 .left))
 
 returns-3 : tie.Need-returns-3
-returns-3 c = λ e. let z : _≡_ {A = ℕ} 0 1 = cc in absurd (omega arith)
+unfolding noneOnly
+returns-3 c = rw (ne-eqb _ _ (c .if1 .left))
 
 pub all-none-spec : {M : Type 1} → statement M
 all-none-spec =

@@ -1,6 +1,6 @@
 -- `curve_test::compare`: level by level. Assumes nothing.
 use native.Mathlib.Omega.{arith}
-use mathlib.Core.Path.{_≡_}
+use mathlib.Core.Path.{_≡_, refl}
 use Prim.Native.Nat.{_≤_, _-_}
 use lib.ListN.{length}
 use borrow.Author.Needs.{needs}
@@ -8,34 +8,43 @@ use Rattle.curve_test.proofs.compare.Statement.{statement}
 use Rattle.curve_test.proofs.compare.Tie as tie
 
 abbrev Inv-loop : tie.InvT-loop
-Inv-loop ws d₀ op a b c x levels base wrong₀ j₀ d wrong j = (j ≤ levels) × (length d ≡ length d₀)
+Inv-loop ws₀ op a b c x levels base from and to wrong₀ j₀ ws wrong j = (j ≤ levels) × (length ws ≡ length ws₀)
 
 abbrev μ-loop : tie.MeasureT-loop
-μ-loop ws d₀ op a b c x levels base wrong₀ j₀ d wrong j = levels - j
+μ-loop ws₀ op a b c x levels base from and to wrong₀ j₀ ws wrong j = levels - j
+
+mul-from : tie.Need-mul-from Inv-loop μ-loop
+mul-from c = search needs
+
+add-from : tie.Need-add-from Inv-loop μ-loop
+add-from c = search needs
+
+mul-and : tie.Need-mul-and Inv-loop μ-loop
+mul-and c = search needs
+
+add-and : tie.Need-add-and Inv-loop μ-loop
+add-and c = search needs
+
+mul-to : tie.Need-mul-to Inv-loop μ-loop
+mul-to c = search needs
+
+add-to : tie.Need-add-to Inv-loop μ-loop
+add-to c = search needs
 
 loop-holds : tie.Need-loop-holds Inv-loop μ-loop
-loop-holds c = search needs
-
-mul-value : tie.Need-mul-value Inv-loop μ-loop
-mul-value c = search needs
-
-mul-value-2 : tie.Need-mul-value-2 Inv-loop μ-loop
-mul-value-2 c = search needs
+loop-holds c = (omega arith, refl)
 
 value-requires : tie.Need-value-requires Inv-loop μ-loop
 value-requires c κs = search needs
 
-mul-put : tie.Need-mul-put Inv-loop μ-loop
-mul-put c = search needs
-
-add-put : tie.Need-add-put Inv-loop μ-loop
-add-put c = search needs
+wrapping-add-usize-requires : tie.Need-wrapping-add-usize-requires Inv-loop μ-loop
+wrapping-add-usize-requires c κs = search needs
 
 put-requires : tie.Need-put-requires Inv-loop μ-loop
 put-requires c κs = search needs
 
-mul-value-3 : tie.Need-mul-value-3 Inv-loop μ-loop
-mul-value-3 c = search needs
+mul-value : tie.Need-mul-value Inv-loop μ-loop
+mul-value c = search needs
 
 value-requires-2 : tie.Need-value-requires-2 Inv-loop μ-loop
 value-requires-2 c κs = search needs
@@ -47,7 +56,7 @@ add-j : tie.Need-add-j Inv-loop μ-loop
 add-j c = search needs
 
 loop-less : tie.Need-loop-less Inv-loop μ-loop
-loop-less c = search needs
+loop-less c = omega arith
 
 loop-again : tie.Need-loop-again Inv-loop μ-loop
 loop-again c = search needs
@@ -64,14 +73,17 @@ compare-spec =
     (tie.spec
     Inv-loop
     μ-loop
+    mul-from
+    add-from
+    mul-and
+    add-and
+    mul-to
+    add-to
     loop-holds
-    mul-value
-    mul-value-2
     value-requires
-    mul-put
-    add-put
+    wrapping-add-usize-requires
     put-requires
-    mul-value-3
+    mul-value
     value-requires-2
     counted-requires
     add-j

@@ -1,15 +1,9 @@
 -- `layer::take_edge`: kind by kind. Assumes nothing.
+use mathlib.Core.Path.{sym, _∙_}
 use borrow.Author.Needs.{needs}
 use Rattle.layer.proofs.Moves.{gap-up, gap-down, gap-abs, ready-stay, stay-taken, taken-ready, none-taken, stay-edge, any-edge, up-edge, down-edge, abs-edge}
 use Rattle.layer.proofs.take_edge.Statement.{statement}
 use Rattle.layer.proofs.take_edge.Tie as tie
-use Rattle.layer.proofs.take_edge.Reads as reads
-use Rattle.layer.proofs.take_edge.Lts as lts
-use Rattle.curve.proofs.all_none.Reads as all-none-reads
-use Rattle.layer.proofs.take.Reads as take-reads
-use Rattle.layer.proofs.take_any.Reads as take-any-reads
-use Rattle.layer.proofs.take_down.Reads as take-down-reads
-use Rattle.layer.proofs.take_up.Reads as take-up-reads
 
 all-none-requires : tie.Need-all-none-requires
 all-none-requires c κs = search needs
@@ -18,7 +12,7 @@ same-length : tie.Need-same-length
 same-length c = search needs
 
 returns : tie.Need-returns
-returns c = let s = c .before .before .before .before in none-taken (s .args .kind) (c .before .all-none .ensures (c .if1 .taken))
+returns c = let s = c .before .before .before .before in none-taken (s .args .kind) (sym (c .before .all-none .ensures) ∙ c .if1 .taken)
 
 enum-told : tie.Need-enum-told
 enum-told c = search needs

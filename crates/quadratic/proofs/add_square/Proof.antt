@@ -3,7 +3,7 @@ use Prim.Native.Nat.{_*_, _≤_}
 use native.Mathlib.Omega.{arith}
 use borrow.Author.Needs.{needs}
 use borrow.Author.Tests.{eq-eqb, ne-eqb}
-use Rattle.quadratic.proofs.Laws.{prod≤}
+use Rattle.quadratic.specs.Fine.{prod≤}
 use Rattle.quadratic.proofs.add_square.Statement.{statement}
 use Rattle.quadratic.proofs.add_square.Tie as tie
 

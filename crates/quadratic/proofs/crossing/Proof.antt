@@ -5,7 +5,8 @@ use native.Mathlib.Omega.{arith}
 use borrow.Author.Needs.{needs}
 use borrow.Author.Tests.{leb-true, leb-false}
 use Rattle.quadratic.specs.Quad.{Over}
-use Rattle.quadratic.proofs.Laws.{le-or-lt, under-back, under-on, under-between, under-line, line-stays, apart}
+use Rattle.integers.specs.Rep.{le-or-lt}
+use Rattle.quadratic.proofs.Laws.{under-back, under-on, under-between, under-line, line-stays, apart}
 use Rattle.quadratic.proofs.crossing.Statement.{statement}
 use Rattle.quadratic.proofs.crossing.Tie as tie
 

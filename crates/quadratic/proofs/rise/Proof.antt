@@ -1,7 +1,7 @@
 -- `quadratic::rise`: the product's bound is a product of bounds. Assumes nothing.
 use Prim.Native.Nat.{_*_, _≤_}
 use native.Mathlib.Omega.{arith}
-use Rattle.quadratic.proofs.Laws.{prod≤}
+use Rattle.quadratic.specs.Fine.{prod≤}
 use Rattle.quadratic.proofs.rise.Statement.{statement}
 use Rattle.quadratic.proofs.rise.Tie as tie
 

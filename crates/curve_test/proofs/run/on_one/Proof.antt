@@ -33,14 +33,14 @@ same-length-3 c = search needs
 returns-3 : tie.Need-returns-3
 returns-3 c = search needs
 
-add-add-loss : tie.Need-add-add-loss
-add-add-loss c = search needs
+place-requires : tie.Need-place-requires
+place-requires c κs = search needs
 
-add-add-loss-2 : tie.Need-add-add-loss-2
-add-add-loss-2 c = search needs
+weight-requires : tie.Need-weight-requires
+weight-requires c κs = search needs
 
 add-loss-requires : tie.Need-add-loss-requires
-add-loss-requires c κs = let v = c .before .before .before .before .before .before .before .before .valid .ensures (passed _ (c .before .before .before .before .before .before .before .if1 .left)) in ((curve-reads (c .before .before .before .before .before .before .before .before .before .before .before .args .dst) (v .list) (c .before .before .before .before .before .before .apart .ensures (passed _ (c .before .before .before .before .before .if2 .left))), c .before .before .before .room .ensures (passed _ (c .before .before .if3 .left))), (((omega arith, omega arith), omega (arith, v .limits .high)), curve-sized (within v) (v .list)))
+add-loss-requires c κs = let v = c .before .before .before .before .before .before .before .before .before .before .valid .ensures (passed _ (c .before .before .before .before .before .before .before .before .before .if1 .left)) in ((curve-reads (c .before .before .before .before .before .before .before .before .before .before .before .before .before .args .dst) (v .list) (c .before .before .before .before .before .before .before .before .apart .ensures (passed _ (c .before .before .before .before .before .before .before .if2 .left))), c .before .before .before .before .before .room .ensures (passed _ (c .before .before .before .before .if3 .left))), (((omega (arith, c .before .before .place .ensures), c .before .weight .ensures), omega (arith, v .limits .high)), curve-sized (within v) (v .list)))
 
 same-length-4 : tie.Need-same-length-4
 same-length-4 c = search needs
@@ -100,8 +100,8 @@ on-one-spec =
     room-requires
     same-length-3
     returns-3
-    add-add-loss
-    add-add-loss-2
+    place-requires
+    weight-requires
     add-loss-requires
     same-length-4
     returns-4

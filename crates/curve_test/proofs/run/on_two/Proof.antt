@@ -1,6 +1,7 @@
 -- `curve_test::run::on_two`: once it is tested. Assumes nothing.
 use Rattle.curve_test.specs.Valid.{passed, within, with-penalty}
 use native.Mathlib.Omega.{arith}
+use Prim.Native.Nat.{_%_}
 use Rattle.curve.specs.Curve.{curve-reads, curve-sized, curve-raised}
 use borrow.Author.Needs.{needs}
 use Rattle.curve_test.proofs.run.on_two.Statement.{statement}
@@ -51,20 +52,14 @@ same-length-5 c = search needs
 returns-5 : tie.Need-returns-5
 returns-5 c = search needs
 
+least-of-two-requires : tie.Need-least-of-two-requires
+least-of-two-requires c κs = let v = c .before .before .before .before .before .before .before .before .before .before .before .before .valid .ensures (passed _ (c .before .before .before .before .before .before .before .before .before .before .before .if1 .left)) in let w = c .before .before .before .before .before .before .before .before .before .valid2 .ensures (passed _ (c .before .before .before .before .before .before .before .before .if2 .left)) in ((curve-reads (c .before .before .before .before .before .before .before .before .before .before .before .before .before .before .before .args .dst) (v .list) (c .before .before .before .before .before .before .before .apart .ensures (passed _ (c .before .before .before .before .before .before .if3 .left))), (curve-reads (c .before .before .before .before .before .before .before .before .before .before .before .before .before .before .before .args .dst) (w .list) (c .before .before .before .before .before .apart2 .ensures (passed _ (c .before .before .before .before .if4 .left))), c .before .before .room .ensures (passed _ (c .before .if5 .left)))), ((omega arith, v .limits .high), (curve-sized (within v) (v .list), curve-raised (c .before .before .before .before .before .before .before .before .before .before .before .before .before .before .before .args .pen % 1048576) (with-penalty v (c .before .before .before .before .before .before .before .before .before .before .before .before .before .before .before .args .pen % 1048576) (omega arith)) (w .list))))
+
 same-length-6 : tie.Need-same-length-6
 same-length-6 c = search needs
 
 returns-6 : tie.Need-returns-6
 returns-6 c = search needs
-
-least-of-two-requires : tie.Need-least-of-two-requires
-least-of-two-requires c κs = let v = c .before .before .before .before .before .before .before .before .before .before .before .before .before .valid .ensures (passed _ (c .before .before .before .before .before .before .before .before .before .before .before .before .if1 .left)) in let w = c .before .before .before .before .before .before .before .before .before .before .valid2 .ensures (passed _ (c .before .before .before .before .before .before .before .before .before .if2 .left)) in ((curve-reads (c .before .before .before .before .before .before .before .before .before .before .before .before .before .before .before .before .args .dst) (v .list) (c .before .before .before .before .before .before .before .before .apart .ensures (passed _ (c .before .before .before .before .before .before .before .if3 .left))), (curve-reads (c .before .before .before .before .before .before .before .before .before .before .before .before .before .before .before .before .args .dst) (w .list) (c .before .before .before .before .before .before .apart2 .ensures (passed _ (c .before .before .before .before .before .if4 .left))), c .before .before .before .room .ensures (passed _ (c .before .before .if5 .left)))), ((omega (arith, c .before .if6 .left), v .limits .high), (curve-sized (within v) (v .list), curve-raised (c .before .before .before .before .before .before .before .before .before .before .before .before .before .before .before .before .args .pen) (with-penalty v (c .before .before .before .before .before .before .before .before .before .before .before .before .before .before .before .before .args .pen) (c .before .if6 .left)) (w .list))))
-
-same-length-7 : tie.Need-same-length-7
-same-length-7 c = search needs
-
-returns-7 : tie.Need-returns-7
-returns-7 c = search needs
 
 pub on-two-spec : {M : Type 1} → statement M
 on-two-spec =
@@ -85,8 +80,6 @@ on-two-spec =
     room-requires
     same-length-5
     returns-5
-    same-length-6
-    returns-6
     least-of-two-requires
-    same-length-7
-    returns-7)
+    same-length-6
+    returns-6)
