@@ -9,6 +9,9 @@ use lib.Dec.{eqb, ltb}
 use lib.IntN.{ℤ, pos, _+ℤ_}
 use lib.ListN.{length, getD, drop, replicate}
 use lib.Signed.{mag}
+use mir.Facts.{toZ-ofZ}
+use mir.Syntax.{w16}
+use mir.Val.{SFits, toZ, ofZ}
 use borrow.Author.Tests.{eq-eqb, ne-eqb, lt-ltb, le-ltb}
 use Rattle.integers.specs.Rep.{iz, nz, _⊕_, eqN}
 use Rattle.plan.specs.declared.Plan.{Plan}
@@ -16,8 +19,8 @@ use Rattle.model.specs.Model.{width, above}
 use Rattle.model.specs.Grid.{grid-index}
 use Rattle.model.specs.Refusals.{pointNumber}
 use Rattle.model.specs.Checked.{Checked, accepted-point, point-low}
-use Rattle.model.specs.Index.{noCost}
-use Rattle.model.specs.Held.{Table, held, some-held, none-held}
+use Rattle.model.specs.Index.{noCost, held, some-held, none-held}
+use Rattle.model.specs.Held.{Table}
 use Rattle.model.specs.Ends.{tableAt, pointAt, point-by}
 use Rattle.model.specs.Tables.{ready-point, table-held}
 use Rattle.model.specs.Result.{Result, found, refused, point, foundCost, resultOf}
@@ -35,6 +38,17 @@ use Rattle.search.specs.Solve.{Askable, Told}
 use Rattle.search.proofs.Ways.{place-low}
 use Rattle.search.proofs.Solves.{task-of}
 use Rattle.search.proofs.Answers.{untouched, cleared-is}
+
+-- a level of 16 bits is handed on as itself
+module _ (P : Plan) (zs : List ℤ) (s : ℕ) {m : ℤ} (f : SFits w16 m) where
+  pub number-back : (n : ℕ) → n ≡ pointNumber P (length zs) s (toZ w16 (ofZ w16 m)) → n ≡ pointNumber P (length zs) s m
+  number-back n e = rw (toZ-ofZ f) at e
+
+  pub askable-on : {g : Shape} {ws : List ℕ} → Askable P zs g s m ws → Askable P zs g s (toZ w16 (ofZ w16 m)) ws
+  askable-on a = rw (toZ-ofZ f) a
+
+  pub told-back : {r : Cost} {ws ws′ : List ℕ} → Told P zs s (toZ w16 (ofZ w16 m)) r ws ws′ → Told P zs s m r ws ws′
+  told-back t = rw (toZ-ofZ f) at t
 
 module _ (P : Plan) (zs : List ℤ) (s : ℕ) (m : ℤ) {g : Shape} {ws : List ℕ} (a : Askable P zs g s m ws) where
   abbrev task : Task P zs g
