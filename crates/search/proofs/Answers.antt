@@ -21,6 +21,7 @@ use Rattle.search.specs.declared.Found.the-variants.{Segmentation, Refus
 use Rattle.search.specs.declared.Cost.{Cost}
 use Rattle.search.specs.declared.Cost.the-variants.{Least, Refusal}
 use Rattle.search.specs.Search.{workWords, searchResult, pointResult, foundOf, costOf, runsAfter, wordsAfter, looked}
+use Rattle.search.specs.Right.{search-early, search-short, search-narrow, search-looks}
 use Rattle.search.specs.Solve.{Solved}
 use Rattle.search.proofs.Zeros.{same-drop}
 
@@ -34,24 +35,6 @@ pub cleared-is : (P : Plan) (r : Result) (ws ws′ : List ℕ) → looked r ≡ 
 unfolding wordsAfter workWords
 cleared-is P r ws ws′ h i = rw h (ap (λ (x : List ℕ). replicate (limit P) 0 ++ x) (same-drop (limit P) ws ws′ (i .size) (λ k q. i .word k (inr q))))
 
-module _ (P : Plan) (zs : List ℤ) (words room : ℕ) where
-  early : (n : ℕ) → n ≡ searchNumber P (length zs) → (n ≡ 0 → ⊥) → searchResult P zs words room ≡ refused n
-  unfolding searchResult
-  early n e h = rw (← e, ne-eqb n 0 h) refl
-
-  module _ (accepts : searchNumber P (length zs) ≡ 0) where
-    short : words < workWords P → searchResult P zs words room ≡ refused 14
-    unfolding searchResult
-    short h = rw (eq-eqb (searchNumber P (length zs)) 0 accepts, lt-ltb words (workWords P) h) refl
-
-    narrow : workWords P ≤ words → room < 5 * length zs → searchResult P zs words room ≡ refused 15
-    unfolding searchResult
-    narrow h k = rw (eq-eqb (searchNumber P (length zs)) 0 accepts, le-ltb words (workWords P) h, lt-ltb room (5 * length zs) k) refl
-
-    looks : workWords P ≤ words → 5 * length zs ≤ room → searchResult P zs words room ≡ resultOf P zs whole
-    unfolding searchResult
-    looks h k = rw (eq-eqb (searchNumber P (length zs)) 0 accepts, le-ltb words (workWords P) h, le-ltb room (5 * length zs) k) refl
-
 -- ---- the contract of a search, at each of its ends
 
 abbrev pub Answered : Plan → List ℤ → Found → List ℕ → List ℕ → List ℤ → List ℤ → Type 0
@@ -63,20 +46,20 @@ module _ (P : Plan) (zs : List ℤ) (ws : List ℕ) (out : List ℤ) where
   refusal n e h = (ap foundOf (sym e), (ap (λ (r : Result). runsAfter r out) (sym e), untouched P _ n ws e h))
 
   pub answered-early : (n : ℕ) → n ≡ searchNumber P (length zs) → (n ≡ 0 → ⊥) → Answered P zs (Refused n) ws ws out out
-  answered-early n e h = refusal n (early P zs (length ws) (length out) n e h) (λ q. omega (arith, search-low P (length zs)))
+  answered-early n e h = refusal n (search-early P zs (length ws) (length out) n e h) (λ q. omega (arith, search-low P (length zs)))
 
   module _ (n : ℕ) (e : n ≡ searchNumber P (length zs)) (z : n ≡ 0) (need : ℕ) (en : need ≡ workWords P) where
     accepts : searchNumber P (length zs) ≡ 0
     accepts = sym e ∙ z
 
     pub answered-short : length ws < need → Answered P zs (Refused 14) ws ws out out
-    answered-short h = refusal 14 (short P zs (length ws) (length out) accepts (omega arith)) (λ q. omega (arith, q))
+    answered-short h = refusal 14 (search-short P zs (length ws) (length out) accepts (omega arith)) (λ q. omega (arith, q))
 
     pub answered-narrow : need ≤ length ws → length out < 5 * length zs → Answered P zs (Refused 15) ws ws out out
-    answered-narrow h k = refusal 15 (narrow P zs (length ws) (length out) accepts (omega arith) k) (λ q. omega (arith, q))
+    answered-narrow h k = refusal 15 (search-narrow P zs (length ws) (length out) accepts (omega arith) k) (λ q. omega (arith, q))
 
     pub answered : need ≤ length ws → 5 * length zs ≤ length out → {r : Found} {ws′ ws″ : List ℕ} {out′ : List ℤ} → Solved P zs r ws ws′ out out′ → ws″ ≡ replicate need 0 ++ drop need ws′ → Answered P zs r ws ws″ out out′
     answered h k {r} {ws′} {ws″} {out′} s c =
-        let q = looks P zs (length ws) (length out) accepts (omega arith) k in
+        let q = search-looks P zs (length ws) (length out) accepts (omega arith) k in
         (s .answer ∙ ap foundOf (sym q), (s .runs ∙ ap (λ (x : Result). runsAfter x out) (sym q),
         c ∙ ap (λ (x : ℕ). replicate x 0 ++ drop x ws′) en ∙ cleared-is P (resultOf P zs whole) ws ws′ (s .looks) (s .inside) ∙ ap (λ (x : Result). wordsAfter P x ws) (sym q)))

@@ -34,6 +34,7 @@ use Rattle.back.specs.Read.{Readable, Reads, layer-reads, layer-readable}
 use Rattle.search.specs.declared.Cost.{Cost}
 use Rattle.search.specs.declared.Cost.the-variants.{Least, Refusal}
 use Rattle.search.specs.Search.{workWords, pointResult, costOf, wordsAfter, looked}
+use Rattle.search.specs.Right.{point-early-is, point-short-is, point-looks}
 use Rattle.search.specs.Solve.{Askable, Told}
 use Rattle.search.proofs.Ways.{place-low}
 use Rattle.search.proofs.Solves.{task-of}
@@ -123,33 +124,21 @@ abbrev pub Answered : Plan → List ℤ → ℕ → ℤ → Cost → List ℕ �
 Answered P zs s m r ws ws′ = (r ≡ costOf (pointResult P zs s m (length ws))) × (ws′ ≡ wordsAfter P (pointResult P zs s m (length ws)) ws)
 
 module _ (P : Plan) (zs : List ℤ) (s : ℕ) (m : ℤ) (ws : List ℕ) where
-  early : (n : ℕ) → n ≡ pointNumber P (length zs) s m → (n ≡ 0 → ⊥) → pointResult P zs s m (length ws) ≡ refused n
-  unfolding pointResult
-  early n e h = rw (← e, ne-eqb n 0 h) refl
-
   refusal : (n : ℕ) → pointResult P zs s m (length ws) ≡ refused n → (n ≡ 16 → ⊥) → Answered P zs s m (Refusal n) ws ws
   refusal n e h = (ap costOf (sym e), untouched P _ n ws e h)
 
   pub point-early : (n : ℕ) → n ≡ pointNumber P (length zs) s m → (n ≡ 0 → ⊥) → Answered P zs s m (Refusal n) ws ws
-  point-early n e h = refusal n (early n e h) (λ q. omega (arith, point-low P (length zs) s m))
+  point-early n e h = refusal n (point-early-is P zs s m (length ws) n e h) (λ q. omega (arith, point-low P (length zs) s m))
 
   module _ (n : ℕ) (e : n ≡ pointNumber P (length zs) s m) (z : n ≡ 0) (need : ℕ) (en : need ≡ workWords P) where
     ok : pointNumber P (length zs) s m ≡ 0
     ok = sym e ∙ z
 
-    short : length ws < workWords P → pointResult P zs s m (length ws) ≡ refused 14
-    unfolding pointResult
-    short h = rw (eq-eqb (pointNumber P (length zs) s m) 0 ok, lt-ltb (length ws) (workWords P) h) refl
-
-    looks : workWords P ≤ length ws → pointResult P zs s m (length ws) ≡ resultOf P zs (point s m)
-    unfolding pointResult
-    looks h = rw (eq-eqb (pointNumber P (length zs) s m) 0 ok, le-ltb (length ws) (workWords P) h) refl
-
     pub point-short : length ws < need → Answered P zs s m (Refusal 14) ws ws
-    point-short h = refusal 14 (short (omega arith)) (λ q. omega (arith, q))
+    point-short h = refusal 14 (point-short-is P zs s m (length ws) ok (omega arith)) (λ q. omega (arith, q))
 
     pub point-answered : need ≤ length ws → {r : Cost} {ws′ ws″ : List ℕ} → Told P zs s m r ws ws′ → ws″ ≡ replicate need 0 ++ drop need ws′ → Answered P zs s m r ws ws″
     point-answered h {r} {ws′} {ws″} t c =
-        let q = looks (omega arith) in
+        let q = point-looks P zs s m (length ws) ok (omega arith) in
         (t .answer ∙ ap costOf (sym q),
         c ∙ ap (λ (x : ℕ). replicate x 0 ++ drop x ws′) en ∙ cleared-is P (resultOf P zs (point s m)) ws ws′ (t .looks) (t .inside) ∙ ap (λ (x : Result). wordsAfter P x ws) (sym q))

@@ -1,3 +1,4 @@
 pub mod Search
 pub mod Way
 pub mod Solve
+pub mod Right
