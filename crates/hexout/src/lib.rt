@@ -1,15 +1,22 @@
 // Writes results as lines of hexadecimal, and reads files that stand one behind the other on standard input.
 use fields::Written;
-ghost use Prim.Native.Nat.{_<_};
+ghost use mathlib.Core.Path.{_≡_};
+ghost use Prim.Native.Nat.{_%_};
+ghost use Rattle.hexout.specs.Digits.{digitOf};
 
-fn digit(n: u8) -> u8
-    requires { ⌜ n < 16 ⌝ }
+// The digit of the low four bits.
+pub fn digit(b: u8) -> u8
+    ensures { λ r. ⌜ r ≡ digitOf (b % 16) ⌝ }
 {
-    if n < 10 { n + 48 } else { n + 87 }
+    let n = b % 16;
+    if n < 10 {
+        return n + 48;
+    }
+    n + 87
 }
 
 fn show_byte(b: u8) {
-    let text = [digit(b / 16), digit(b % 16)];
+    let text = [digit(b / 16), digit(b)];
     io::write_all(1, &text);
 }
 
