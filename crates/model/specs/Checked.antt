@@ -368,7 +368,7 @@ entry-low : (s : ℕ) (es : List Edge) (n : ℕ) (e : Edge) → entryNumber s es
 unfolding entryNumber edgeStep
 entry-low s es n e = step-low (leb 32 n) es n (e .from) (e .to) (kindNumber (e .kind)) (edgeOf s (e .from) (e .to) (kindNumber (e .kind)) (gapOf (e .kind)) (e .class))
 
-label-low : (ls : List Label) (n : ℕ) (l : Label) → labelNumber ls n l ≤ 12
+pub label-low : (ls : List Label) (n : ℕ) (l : Label) → labelNumber ls n l ≤ 12
 unfolding labelNumber
 label-low ls n l =
     pick-low (leb 64 n) 10 _ 12 (omega arith) (pick-low (eqb (l .p) 0) 8 _ 12 (omega arith) (pick-low (leb (l .q) (l .p)) 8 _ 12 (omega arith)

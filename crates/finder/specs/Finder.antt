@@ -1,0 +1,107 @@
+-- What the exported calls answer: a plan comes as the bytes of a plan file, so each is first refused as the reader refuses. Assumes nothing.
+use mathlib.Core.List.{List, _++_}
+use mathlib.Core.Bool.{Bool, true, false}
+use Prim.Native.Nat.{ℕ, _+_, _*_, _/_}
+use lib.Dec.{eqb, leb}
+use lib.IntN.{ℤ}
+use lib.ListN.{length, drop}
+use Rattle.integers.specs.Pick.{pick}
+use Rattle.plan.specs.declared.Answer.{Answer}
+use Rattle.plan.specs.declared.Answer.the-variants.{Done, Refused}
+use Rattle.model.specs.Result.{Result, found, refused}
+use Rattle.search.specs.Search.{searchResult, pointResult, wordsAfter}
+use Rattle.readings.specs.Codec.{readingsOf, decodeNumber, decoded}
+use Rattle.fields.specs.Put.{outcome, written, writtenNumber, writtenBytes}
+use Rattle.fields.specs.declared.Written.{Written}
+use Rattle.files.specs.Reader.{planFile, readingsPart}
+use Rattle.files.specs.Writer.{planWritten, afterWriting}
+use Rattle.answers.specs.Writer.{answerBytes, refusalBytes}
+use Rattle.answers.specs.declared.AnswerRead.{AnswerRead}
+use Rattle.answers.specs.declared.AnswerRead.the-variants.{Runs, Refusal, Unread}
+use Rattle.finder.specs.declared.Outcome.{Outcome}
+use Rattle.finder.specs.declared.Reply.{Reply}
+
+-- ---- answers as the numbers that a program in C is given
+
+abbrev pub given : ℕ → ℕ → ℕ → Outcome
+given n c k = record { refusal = n; cost = c; count = k }
+
+abbrev pub refusedWith : ℕ → Outcome
+refusedWith n = given n 0 0
+
+abbrev pub searchOutcome : Result → Outcome
+searchOutcome (found c ns) = given 0 c (length ns / 5)
+searchOutcome (refused n) = refusedWith n
+
+abbrev pub pointOutcome : Result → Outcome
+pointOutcome (found c ns) = given 0 c 0
+pointOutcome (refused n) = refusedWith n
+
+abbrev pub writtenOutcome : Written → Outcome
+writtenOutcome w = given (writtenNumber w) 0 (writtenBytes w)
+
+abbrev pub replyOf : AnswerRead → Reply
+replyOf (Runs c k) = record { refusal = 0; held = 0; cost = c; count = k }
+replyOf (Refusal n) = record { refusal = 0; held = n; cost = 0; count = 0 }
+replyOf (Unread n) = record { refusal = n; held = 0; cost = 0; count = 0 }
+
+-- ---- the plan of a file
+
+-- x where the file has a plan, else what its refusal gives
+abbrev pub onPlan : {A : Type 0} → Answer → A → (ℕ → A) → A
+onPlan Done x f = x
+onPlan (Refused n) x f = f n
+
+unfoldable pub searchFile : List ℕ → List ℤ → ℕ → ℕ → Result
+searchFile s zs words room = onPlan (planFile s .answer) (searchResult (planFile s .plan) zs words room) refused
+
+unfoldable pub pointFile : List ℕ → List ℤ → ℕ → ℤ → ℕ → Result
+pointFile s zs st m words = onPlan (planFile s .answer) (pointResult (planFile s .plan) zs st m words) refused
+
+-- the workspace after a call on the plan of a file that gave r
+unfoldable pub fileWords : List ℕ → Result → List ℕ → List ℕ
+fileWords s r ws = onPlan (planFile s .answer) (wordsAfter (planFile s .plan) r ws) (λ n. ws)
+
+-- ---- the readings of a file
+
+-- decoding them into a list of room readings: the reader's refusal, then the decoder's
+abbrev pub readNumber : List ℕ → ℕ → ℕ
+readNumber s room = decodeNumber (length (readingsPart s)) room
+
+unfoldable pub readOutcome : List ℕ → ℕ → Outcome
+readOutcome s room = onPlan (planFile s .answer) (pick (eqb (readNumber s room) 0) (given 0 0 (length (readingsPart s) / 2)) (refusedWith (readNumber s room))) refusedWith
+
+unfoldable pub fileReadings : List ℕ → List ℤ → List ℤ
+fileReadings s out = onPlan (planFile s .answer) (decoded (readingsPart s) out) (λ n. out)
+
+-- ---- the plan of a file, written with other readings
+
+unfoldable pub rewritten : List ℕ → ℕ → ℕ → Outcome
+rewritten s n room = onPlan (planFile s .answer) (writtenOutcome (planWritten (planFile s .plan) n room)) refusedWith
+
+unfoldable pub afterRewriting : List ℕ → List ℤ → List ℕ → List ℕ
+afterRewriting s zs out = onPlan (planFile s .answer) (afterWriting (planFile s .plan) zs out) (λ n. out)
+
+-- ---- plan file in, answer file out
+
+-- the reader's refusal, the decoder's, or what the search of its readings gives
+unfoldable pub fileResult : List ℕ → ℕ → ℕ → ℕ → Result
+fileResult s room words numbers =
+    onPlan (planFile s .answer)
+    (pick (eqb (readNumber s room) 0) (searchResult (planFile s .plan) (readingsOf (readingsPart s)) words numbers) (refused (readNumber s room)))
+    refused
+
+-- "An answer file is 81 and one or more 82, or one 83 alone."
+abbrev pub resultBytes : Result → List ℕ
+resultBytes (found c ns) = answerBytes c ns
+resultBytes (refused n) = refusalBytes n
+
+-- "15 .. too short for the bytes .. to be written"
+unfoldable pub roomNumber : List ℕ → ℕ → ℕ
+roomNumber bs room = pick (leb (length bs) room) 0 15
+
+unfoldable pub segmentOutcome : Result → ℕ → Outcome
+segmentOutcome r room = writtenOutcome (outcome (roomNumber (resultBytes r) room) (length (resultBytes r)))
+
+unfoldable pub afterSegment : Result → List ℕ → List ℕ
+afterSegment r out = written (roomNumber (resultBytes r) (length out)) (resultBytes r) out
