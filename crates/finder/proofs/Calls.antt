@@ -66,26 +66,32 @@ module _ (s : List ℕ) (r : FileRead) (e : r ≡ planFile s) where
         → (o ≡ searchOutcome (searchFile s zs (length ws) (length runs))) × ((runs′ ≡ runsAfter (searchFile s zs (length ws) (length runs)) runs) × (ws′ ≡ fileWords s (searchFile s zs (length ws) (length runs)) ws))
     unfolding searchFile fileWords
     search-some zs ws ws′ runs runs′ f o k (a, (b, c)) =
-        let q : searchResult (r .plan) zs (length ws) (length runs) ≡ searchFile s zs (length ws) (length runs) = ap (λ (x : FileRead). searchResult (x .plan) zs (length ws) (length runs)) e ∙ some _ refused in
-        (k ∙ ap foundOutcome a ∙ found-outcome (searchResult (r .plan) zs (length ws) (length runs)) ∙ ap searchOutcome q, (b ∙ ap (λ (x : Result). runsAfter x runs) q,
-         c ∙ ap (λ (x : Result). wordsAfter (r .plan) x ws) q ∙ ap (λ (x : FileRead). wordsAfter (x .plan) (searchFile s zs (length ws) (length runs)) ws) e ∙ some _ (λ k. ws)))
+        let q : searchResult (r .plan) zs (length ws) (length runs) ≡ searchFile s zs (length ws) (length runs) = ap (λ (x : FileRead). searchResult (x .plan) zs (length ws) (length runs)) e ∙ some _ refused in (
+          k ∙ ap foundOutcome a ∙ found-outcome (searchResult (r .plan) zs (length ws) (length runs)) ∙ ap searchOutcome q,
+          (
+            b ∙ ap (λ (x : Result). runsAfter x runs) q,
+            c ∙ ap (λ (x : Result). wordsAfter (r .plan) x ws) q ∙ ap (λ (x : FileRead). wordsAfter (x .plan) (searchFile s zs (length ws) (length runs)) ws) e ∙ some _ (λ k. ws),
+          ),
+        )
 
     pub point-some : (zs : List ℤ) (st : ℕ) (m m′ : ℤ) → m′ ≡ m → (ws ws′ : List ℕ) (f : Cost) (o : Outcome) → o ≡ costOutcome f
         → (f ≡ costOf (pointResult (r .plan) zs st m′ (length ws))) × (ws′ ≡ wordsAfter (r .plan) (pointResult (r .plan) zs st m′ (length ws)) ws)
         → (o ≡ pointOutcome (pointFile s zs st m (length ws))) × (ws′ ≡ fileWords s (pointFile s zs st m (length ws)) ws)
     unfolding pointFile fileWords
     point-some zs st m m′ w ws ws′ f o k (a, c) =
-        let q : pointResult (r .plan) zs st m′ (length ws) ≡ pointFile s zs st m (length ws) = ap (λ (x : ℤ). pointResult (r .plan) zs st x (length ws)) w ∙ ap (λ (x : FileRead). pointResult (x .plan) zs st m (length ws)) e ∙ some _ refused in
-        (k ∙ ap costOutcome a ∙ cost-outcome (pointResult (r .plan) zs st m′ (length ws)) ∙ ap pointOutcome q,
-         c ∙ ap (λ (x : Result). wordsAfter (r .plan) x ws) q ∙ ap (λ (x : FileRead). wordsAfter (x .plan) (pointFile s zs st m (length ws)) ws) e ∙ some _ (λ k. ws))
+        let q : pointResult (r .plan) zs st m′ (length ws) ≡ pointFile s zs st m (length ws) = ap (λ (x : ℤ). pointResult (r .plan) zs st x (length ws)) w ∙ ap (λ (x : FileRead). pointResult (x .plan) zs st m (length ws)) e ∙ some _ refused in (
+          k ∙ ap costOutcome a ∙ cost-outcome (pointResult (r .plan) zs st m′ (length ws)) ∙ ap pointOutcome q,
+          c ∙ ap (λ (x : Result). wordsAfter (r .plan) x ws) q ∙ ap (λ (x : FileRead). wordsAfter (x .plan) (pointFile s zs st m (length ws)) ws) e ∙ some _ (λ k. ws),
+        )
 
     pub write-some : (zs : List ℤ) (out out′ : List ℕ) (w : Written) (o : Outcome) → o ≡ writtenOutcome w
         → (w ≡ planWritten (r .plan) (length zs) (length out)) × (out′ ≡ afterWriting (r .plan) zs out)
         → (o ≡ rewritten s (length zs) (length out)) × (out′ ≡ afterRewriting s zs out)
     unfolding rewritten afterRewriting
-    write-some zs out out′ w o k (a, b) =
-        (k ∙ ap writtenOutcome (a ∙ ap (λ (x : FileRead). planWritten (x .plan) (length zs) (length out)) e) ∙ some _ refusedWith,
-         b ∙ ap (λ (x : FileRead). afterWriting (x .plan) zs out) e ∙ some _ (λ k. out))
+    write-some zs out out′ w o k (a, b) = (
+      k ∙ ap writtenOutcome (a ∙ ap (λ (x : FileRead). planWritten (x .plan) (length zs) (length out)) e) ∙ some _ refusedWith,
+      b ∙ ap (λ (x : FileRead). afterWriting (x .plan) zs out) e ∙ some _ (λ k. out),
+    )
 
     -- the readings of the file, decoded
     module _ (b : List ℕ) (p : b ≡ partOf s (r .start) (r .len)) (out out′ : List ℤ) (n : ℕ) (d : (n ≡ decodeNumber (length b) (length out)) × (out′ ≡ decoded b out)) where
@@ -109,7 +115,7 @@ module _ (s : List ℕ) (r : FileRead) (e : r ≡ planFile s) where
       unfolding readOutcome
       read-some k =
           let q : given 0 0 (length b / 2) ≡ pick (eqb (readNumber s (length out)) 0) (given 0 0 (length (readingsPart s) / 2)) (refusedWith (readNumber s (length out))) =
-              rw (← number-is, eq-eqb n 0 k) (ap (λ (x : List ℕ). given 0 0 (length x / 2)) part-is) in
+          rw (← number-is, eq-eqb n 0 k) (ap (λ (x : List ℕ). given 0 0 (length x / 2)) part-is) in
           (q ∙ some _ refusedWith, list-is)
 
 -- ---- what a search gave, written

@@ -1,2 +1,4 @@
 pub mod Calls
 pub mod Numbers
+pub mod Fit
+pub mod Segment

@@ -20,6 +20,7 @@ use Rattle.plan.specs.declared.EdgeStep.the-variants.{AddEdge, RefuseEdge}
 use Rattle.plan.specs.declared.Answer.{Answer}
 use Rattle.plan.specs.declared.Answer.the-variants.{Done, Refused}
 use Rattle.plan.specs.Build.{pick, gridOk, statesOk, blank, refusedAt, done, openNumber, openPlan, edgeOf, hasEdge, freshEdge, readEdge, edgeStep, addStep, planNumber, changeNumber, addEdge, withLabel, labelNumber, labelStep, addLabel, closed, sealPlan}
+use Rattle.model.specs.Bools.{clash}
 use Rattle.model.specs.Checked.{plan-low, label-low}
 use Rattle.fields.specs.declared.Field.{Field}
 use Rattle.fields.specs.declared.Field.the-variants.{Body, Wrong}
@@ -46,9 +47,6 @@ builtListed b = answerListed (b .answer)
 
 abbrev readListed : FileRead → Bool
 readListed r = answerListed (r .answer)
-
-clash : {Q : Type 0} {b : Bool} → b ≡ false → b ≡ true → Q
-clash p q = let z : _≡_ {A = ℕ} 0 1 = cc in absurd (omega arith)
 
 either : {A : Type 0} (f : A → Bool) (b : Bool) (x y : A) → f x ≡ true → f y ≡ true → f (pick b x y) ≡ true
 either f true x y h k = h
@@ -85,7 +83,7 @@ end-listed : (s : List ℕ) (at : ℕ) → listed (fieldNumber (fieldAt s at 4))
 end-listed s at = go (fieldAt s at 4) refl (field-listed s at 4)
   where
     go : (f : Field) → fieldAt s at 4 ≡ f → fieldListed f ≡ true → listed (fieldNumber f) ≡ true
-    go (Body t st l) e h = clash (at-4 t) (field-is s at 4 e .stands)
+    go (Body t st l) e h = clash (sym (at-4 t) ∙ field-is s at 4 e .stands)
     go (Wrong n) e h = h
 
 -- ---- the plan calls

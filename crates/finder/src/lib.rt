@@ -2,10 +2,12 @@
 use answers::AnswerRead;
 use fields::Written;
 use plan::Answer;
+use plan::Plan;
 use search::Cost;
 use search::Found;
 ghost use mathlib.Core.Path.{_≡_};
-ghost use Prim.Native.Nat.{ℕ, _*_, _≤_};
+ghost use Prim.Native.Nat.{ℕ, _*_, _≤_, _<_};
+ghost use lib.Signed.{mag};
 ghost use lib.ListN.{length, take};
 ghost use Rattle.search.specs.Search.{runsAfter};
 ghost use Rattle.answers.specs.Reader.{readAnswer, filled};
@@ -87,7 +89,12 @@ fn least(c: Cost) -> Outcome
 
 // The search of a plan over readings. The readings in the plan file itself are not looked at.
 #[no_mangle]
-pub extern "C" fn yeldaski_search(file: &[u8], readings: &[i16], workspace: &mut [u64], runs: &mut [i32]) -> Outcome
+pub extern "C" fn yeldaski_search(
+    file: &[u8],
+    readings: &[i16],
+    workspace: &mut [u64],
+    runs: &mut [i32],
+) -> Outcome
     ensures answer { λ r. ⌜ r ≡ searchOutcome (searchFile (now (file .entry)) (now (readings .entry)) (length (now (workspace .entry))) (length (now (runs .entry)))) ⌝ }
     ensures list { λ r. ⌜ now (runs .exit) ≡ runsAfter (searchFile (now (file .entry)) (now (readings .entry)) (length (now (workspace .entry))) (length (now (runs .entry)))) (now (runs .entry)) ⌝ }
     ensures words { λ r. ⌜ now (workspace .exit) ≡ fileWords (now (file .entry)) (searchFile (now (file .entry)) (now (readings .entry)) (length (now (workspace .entry))) (length (now (runs .entry)))) (now (workspace .entry)) ⌝ }
@@ -103,7 +110,13 @@ pub extern "C" fn yeldaski_search(file: &[u8], readings: &[i16], workspace: &mut
 
 // The least cost of what ends after these readings in the named state at the named level.
 #[no_mangle]
-pub extern "C" fn yeldaski_point(file: &[u8], readings: &[i16], state: u8, level: i16, workspace: &mut [u64]) -> Outcome
+pub extern "C" fn yeldaski_point(
+    file: &[u8],
+    readings: &[i16],
+    state: u8,
+    level: i16,
+    workspace: &mut [u64],
+) -> Outcome
     ensures answer { λ r. ⌜ r ≡ pointOutcome (pointFile (now (file .entry)) (now (readings .entry)) state level (length (now (workspace .entry)))) ⌝ }
     ensures words { λ r. ⌜ now (workspace .exit) ≡ fileWords (now (file .entry)) (pointFile (now (file .entry)) (now (readings .entry)) state level (length (now (workspace .entry)))) (now (workspace .entry)) ⌝ }
 {
@@ -197,6 +210,13 @@ pub extern "C" fn yeldaski_write_refusal(number: u8, out: &mut [u8]) -> Outcome
     written(answers::write_refusal(number, out))
 }
 
+// A level is a number of 16 bits. Proofs learn that of a plan where its grid is read, and an answer file needs it of every run.
+fn read_grid(plan: Plan)
+    ensures { λ r. ⌜ (mag (plan .lo) < 32768) × (mag (plan .hi) < 32768) ⌝ }
+{
+    let _lo = plan.lo;
+}
+
 // What a search gave, its runs at the front of a list, written as an answer file.
 fn write_found(f: Found, runs: &[i32], out: &mut [u8]) -> Written
     requires { ⌜ runsIn f ≤ length (now runs) ⌝ }
@@ -214,7 +234,13 @@ fn write_found(f: Found, runs: &[i32], out: &mut [u8]) -> Written
 
 // The answer file of a plan file.
 #[no_mangle]
-pub extern "C" fn yeldaski_segment(file: &[u8], readings: &mut [i16], workspace: &mut [u64], runs: &mut [i32], out: &mut [u8]) -> Outcome
+pub extern "C" fn yeldaski_segment(
+    file: &[u8],
+    readings: &mut [i16],
+    workspace: &mut [u64],
+    runs: &mut [i32],
+    out: &mut [u8],
+) -> Outcome
     ensures answer { λ r. ⌜ r ≡ segmentOutcome (fileResult (now (file .entry)) (length (now (readings .entry))) (length (now (workspace .entry))) (length (now (runs .entry)))) (length (now (out .entry))) ⌝ }
     ensures bytes { λ r. ⌜ now (out .exit) ≡ afterSegment (fileResult (now (file .entry)) (length (now (readings .entry))) (length (now (workspace .entry))) (length (now (runs .entry)))) (now (out .entry)) ⌝ }
     ensures readings { λ r. ⌜ now (readings .exit) ≡ fileReadings (now (file .entry)) (now (readings .entry)) ⌝ }
@@ -233,6 +259,7 @@ pub extern "C" fn yeldaski_segment(file: &[u8], readings: &mut [i16], workspace:
     }
     let n = body.len() / 2;
     let plan = read.plan;
+    read_grid(plan);
     let f = search::search(plan, &readings[..n], workspace, runs);
     written(write_found(f, runs, out))
 }

@@ -99,13 +99,7 @@ fn count_after(on: Cover, t: usize, x: Kind, k: usize) -> usize
 {
     match on {
         Cover::Free => 0,
-        Cover::By(l) => {
-            if closes(l, t) {
-                0
-            } else {
-                k + change_of(x)
-            }
-        }
+        Cover::By(l) => { if closes(l, t) { 0 } else { k + change_of(x) } }
     }
 }
 

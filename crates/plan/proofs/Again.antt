@@ -189,10 +189,16 @@ module _ (p : Plan) where
       let f = front i (omega arith) in
       record {
         same = record {
-          lo = f .same .lo; hi = f .same .hi; states = f .same .states; start = f .same .start; end = f .same .end;
-          edgecount = sym (add-one i) ∙ ap (λ n. n + 1) (f .same .edgecount); labelcount = f .same .labelcount;
+          lo = f .same .lo;
+          hi = f .same .hi;
+          states = f .same .states;
+          start = f .same .start;
+          end = f .same .end;
+          edgecount = sym (add-one i) ∙ ap (λ n. n + 1) (f .same .edgecount);
+          labelcount = f .same .labelcount;
           edges = entries-next (p .edges) (madeEdges i .edges) (madeEdges i .edgecount) i noEdge (f .same .edgecount) (omega (arith, f .sized .edges)) (f .same .edges);
-          labels = λ j k. absurd (omega arith) };
+          labels = λ j k. absurd (omega arith);
+        };
         sized = record { edges = simp length-set (f .sized .edges); labels = f .sized .labels };
         unsealed = f .unsealed;
       }
@@ -203,8 +209,16 @@ module _ (p : Plan) where
       let f = front (p .edgecount) m in
       record {
         same = record {
-          lo = f .same .lo; hi = f .same .hi; states = f .same .states; start = f .same .start; end = f .same .end;
-          edgecount = f .same .edgecount; labelcount = f .same .labelcount; edges = f .same .edges; labels = λ i k. absurd (omega arith) };
+          lo = f .same .lo;
+          hi = f .same .hi;
+          states = f .same .states;
+          start = f .same .start;
+          end = f .same .end;
+          edgecount = f .same .edgecount;
+          labelcount = f .same .labelcount;
+          edges = f .same .edges;
+          labels = λ i k. absurd (omega arith);
+        };
         sized = f .sized;
         unsealed = f .unsealed;
       }
@@ -212,10 +226,16 @@ module _ (p : Plan) where
       let f = back m j (omega arith) in
       record {
         same = record {
-          lo = f .same .lo; hi = f .same .hi; states = f .same .states; start = f .same .start; end = f .same .end;
-          edgecount = f .same .edgecount; labelcount = sym (add-one j) ∙ ap (λ n. n + 1) (f .same .labelcount);
+          lo = f .same .lo;
+          hi = f .same .hi;
+          states = f .same .states;
+          start = f .same .start;
+          end = f .same .end;
+          edgecount = f .same .edgecount;
+          labelcount = sym (add-one j) ∙ ap (λ n. n + 1) (f .same .labelcount);
           edges = f .same .edges;
-          labels = entries-next (p .labels) (madeLabels j .labels) (madeLabels j .labelcount) j noLabel (f .same .labelcount) (omega (arith, f .sized .labels)) (f .same .labels) };
+          labels = entries-next (p .labels) (madeLabels j .labels) (madeLabels j .labelcount) j noLabel (f .same .labelcount) (omega (arith, f .sized .labels)) (f .same .labels);
+        };
         sized = record { edges = f .sized .edges; labels = simp length-set (f .sized .labels) };
         unsealed = f .unsealed;
       }
@@ -343,9 +363,11 @@ module _ (p : Plan) where
   passes-made h =
       let a = parts p h in
       let few = few-edges (p .edgecount) (a .edges) in
-      let f = back few (p .labelcount) (few-labels (p .labelcount) (a .labels)) .same in
-      (madeLabels (p .labelcount), labels-made (p .labelcount) _ (built a few),
-      record { lo = f .lo; hi = f .hi; states = f .states; start = f .start; end = f .end; edgecount = f .edgecount; labelcount = f .labelcount; edges = f .edges; labels = f .labels })
+      let f = back few (p .labelcount) (few-labels (p .labelcount) (a .labels)) .same in (
+        madeLabels (p .labelcount),
+        labels-made (p .labelcount) _ (built a few),
+        record { lo = f .lo; hi = f .hi; states = f .states; start = f .start; end = f .end; edgecount = f .edgecount; labelcount = f .labelcount; edges = f .edges; labels = f .labels },
+      )
     where
       ended : {x : ℕ} {A B : Type 0} → x ≡ 0 → ((x ≡ 0) × A) ⊎ ((x ≡ 0 → ⊥) × B) → A
       ended e (inl w) = w .1

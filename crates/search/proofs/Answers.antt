@@ -60,6 +60,10 @@ module _ (P : Plan) (zs : List ℤ) (ws : List ℕ) (out : List ℤ) where
 
     pub answered : need ≤ length ws → 5 * length zs ≤ length out → {r : Found} {ws′ ws″ : List ℕ} {out′ : List ℤ} → Solved P zs r ws ws′ out out′ → ws″ ≡ replicate need 0 ++ drop need ws′ → Answered P zs r ws ws″ out out′
     answered h k {r} {ws′} {ws″} {out′} s c =
-        let q = search-looks P zs (length ws) (length out) accepts (omega arith) k in
-        (s .answer ∙ ap foundOf (sym q), (s .runs ∙ ap (λ (x : Result). runsAfter x out) (sym q),
-        c ∙ ap (λ (x : ℕ). replicate x 0 ++ drop x ws′) en ∙ cleared-is P (resultOf P zs whole) ws ws′ (s .looks) (s .inside) ∙ ap (λ (x : Result). wordsAfter P x ws) (sym q)))
+        let q = search-looks P zs (length ws) (length out) accepts (omega arith) k in (
+          s .answer ∙ ap foundOf (sym q),
+          (
+            s .runs ∙ ap (λ (x : Result). runsAfter x out) (sym q),
+            c ∙ ap (λ (x : ℕ). replicate x 0 ++ drop x ws′) en ∙ cleared-is P (resultOf P zs whole) ws ws′ (s .looks) (s .inside) ∙ ap (λ (x : Result). wordsAfter P x ws) (sym q),
+          ),
+        )

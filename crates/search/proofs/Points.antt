@@ -75,9 +75,10 @@ module _ (P : Plan) (zs : List ℤ) (s : ℕ) (m : ℤ) {g : Shape} {ws : List �
       layer-now = subst (λ (x : ℕ). Layer P zs x ws′ (w .cur)) (walked .time) (walked .at .layer)
 
       pub may-ask : Readable (w .cur) g ws′ × ((s < g .states) × (v - g .base < g .levels))
-      may-ask =
-          (layer-readable task layer-now (place-low task (walked .at)) (task .most),
-          (omega (arith, accepted-point P (length zs) s m (a .accepts) .state, task .shape .states), omega (arith, index-is, on-grid .0, task .shape .levels)))
+      may-ask = (
+        layer-readable task layer-now (place-low task (walked .at)) (task .most),
+        (omega (arith, accepted-point P (length zs) s m (a .accepts) .state, task .shape .states), omega (arith, index-is, on-grid .0, task .shape .levels)),
+      )
 
       module _ {c : ℕ} (f : (H : Table) → Reads (w .cur) g ws′ H → c ≡ pointAt H s (v - g .base)) where
         abbrev last-table : Table
@@ -139,6 +140,7 @@ module _ (P : Plan) (zs : List ℤ) (s : ℕ) (m : ℤ) (ws : List ℕ) where
 
     pub point-answered : need ≤ length ws → {r : Cost} {ws′ ws″ : List ℕ} → Told P zs s m r ws ws′ → ws″ ≡ replicate need 0 ++ drop need ws′ → Answered P zs s m r ws ws″
     point-answered h {r} {ws′} {ws″} t c =
-        let q = point-looks P zs s m (length ws) ok (omega arith) in
-        (t .answer ∙ ap costOf (sym q),
-        c ∙ ap (λ (x : ℕ). replicate x 0 ++ drop x ws′) en ∙ cleared-is P (resultOf P zs (point s m)) ws ws′ (t .looks) (t .inside) ∙ ap (λ (x : Result). wordsAfter P x ws) (sym q))
+        let q = point-looks P zs s m (length ws) ok (omega arith) in (
+          t .answer ∙ ap costOf (sym q),
+          c ∙ ap (λ (x : ℕ). replicate x 0 ++ drop x ws′) en ∙ cleared-is P (resultOf P zs (point s m)) ws ws′ (t .looks) (t .inside) ∙ ap (λ (x : Result). wordsAfter P x ws) (sym q),
+        )

@@ -6,7 +6,13 @@ fn main() {
     let mut workspace = [0u64; 7680];
     let mut runs = [0i32; 16000];
     let mut out = [0u8; 65536];
-    let w = finder::yeldaski_segment(&file[..n], &mut readings, &mut workspace, &mut runs, &mut out);
+    let w = finder::yeldaski_segment(
+        &file[..n],
+        &mut readings,
+        &mut workspace,
+        &mut runs,
+        &mut out,
+    );
     let m = w.count;
     if m <= 65536 {
         io::write_all(1, &out[..m]);

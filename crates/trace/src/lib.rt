@@ -17,7 +17,6 @@ ghost use Rattle.quadratic.specs.Fine.{far};
 ghost use Rattle.runs.specs.Runs.{fiveOf};
 ghost use Rattle.trace.specs.Trace.{StepReady, StepMade};
 
-
 // Where the way back stands: count, state, index of the level, and the cost there; the last reading of the run that is open, and how many
 // runs are written.
 pub struct Point {
