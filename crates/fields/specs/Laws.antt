@@ -120,7 +120,7 @@ module _ (pre body rest : List ℕ) (t stage : ℕ) (stands : mayStand stage t �
       take-at body rest (length body) refl
 
 -- a part of bytes is bytes
-take-bytes : (n : ℕ) (s : List ℕ) → AllBytes s → AllBytes (take n s)
+pub take-bytes : (n : ℕ) (s : List ℕ) → AllBytes s → AllBytes (take n s)
 take-bytes zero s f i = lit< tt
 take-bytes (suc n) [] f i = lit< tt
 take-bytes (suc n) (x ∷ s) f zero = f 0

@@ -2,3 +2,4 @@ pub mod Calls
 pub mod Numbers
 pub mod Fit
 pub mod Segment
+pub mod Prefix
