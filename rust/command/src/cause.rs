@@ -1,0 +1,159 @@
+//! What in a refused field is wrong, in words. The number is the proved reader's; this only explains it.
+use crate::fields::{number, signed, Field};
+use crate::locate::{is_cut, Kind, Place};
+use crate::plan::{edge_of, label_of, Edge, KINDS};
+
+const END: &str = "the end of the file";
+
+pub fn cause(kind: Kind, file: &[u8], place: &Place, refusal: u8) -> Option<String> {
+    let Some(field) = place.field() else {
+        return Some(format!("the file ends, but {} is due", due(kind, place)));
+    };
+    let body = &file[field.body.clone()];
+    match refusal {
+        1 if due(kind, place) == END => Some(format!("{}; nothing may stand here", cut(field))),
+        1 => Some(cut(field)),
+        2 => Some(format!("tag {:02X} stands where {} is due", field.tag, due(kind, place))),
+        3 => Some(wrong_length(field)),
+        9 => Some(format!("{} readings", field.length.unwrap_or(0) / 2)),
+        // The other numbers are about the content of a whole body.
+        _ if is_cut(field) => None,
+        4 => Some(grid(body)),
+        5 => states(body),
+        6 => edge(file, place, &edge_of(body)),
+        7 => same_edge(file, place, &edge_of(body)),
+        8 => label(body),
+        10 if field.tag == 3 => Some("it is the 33rd edge".to_string()),
+        10 => Some("it is the 65th label".to_string()),
+        12 => early_label(file, place, body),
+        17 if field.tag == 0x83 => Some(format!("{} is no refusal number", body[0])),
+        17 => run(file, place, body),
+        _ => None,
+    }
+}
+
+fn due(kind: Kind, place: &Place) -> &'static str {
+    let before = place
+        .index
+        .checked_sub(1)
+        .and_then(|index| place.fields.get(index))
+        .map(|field| field.tag);
+    match (kind, before) {
+        (Kind::Plan, None) => "tag 01 (grid)",
+        (Kind::Plan, Some(1)) => "tag 02 (states)",
+        (Kind::Plan, Some(2 | 3)) => "tag 03 (edge), 04 (label) or 05 (readings)",
+        (Kind::Plan, Some(4)) => "tag 04 (label) or 05 (readings)",
+        (Kind::Answer, None) => "tag 81 (cost) or 83 (refusal)",
+        (Kind::Answer, Some(0x81)) => "tag 82 (run)",
+        (Kind::Answer, Some(0x82)) => "tag 82 (run) or the end of the file",
+        _ => END,
+    }
+}
+
+fn cut(field: &Field) -> String {
+    match field.length {
+        Some(length) => format!(
+            "the body should have {length} bytes, but the file ends after {} of them",
+            field.body.len()
+        ),
+        None => format!(
+            "the header should have 3 bytes, but the file ends after {} of them",
+            field.end() - field.offset
+        ),
+    }
+}
+
+fn wrong_length(field: &Field) -> String {
+    let right = match field.tag {
+        0x01 => 4,
+        0x02 => 3,
+        0x03 => 6,
+        0x04 => 5,
+        0x81 | 0x82 => 8,
+        0x83 => 1,
+        _ => return format!("the length {} is odd", field.length.unwrap_or(0)),
+    };
+    format!("the length is {}, but should be {right}", field.length.unwrap_or(0))
+}
+
+fn grid(body: &[u8]) -> String {
+    let (lo, hi) = (signed(&body[..2]), signed(&body[2..]));
+    let width = i32::from(hi) - i32::from(lo);
+    if width < 0 {
+        return format!("hi {hi} is below lo {lo}");
+    }
+    format!("hi {hi} - lo {lo} is {width}, above 1023")
+}
+
+fn states(body: &[u8]) -> Option<String> {
+    let count = body[0];
+    if count == 0 || count > 8 {
+        return Some(format!("{count} states, but 1 to 8 are allowed"));
+    }
+    let mask = |name: &str, mask: u8| match mask {
+        0 => Some(format!("the {name} mask is empty")),
+        _ if u16::from(mask) >> count != 0 => Some(format!("the {name} mask {mask:08b} has a bit for a state not below {count}")),
+        _ => None,
+    };
+    mask("start", body[1]).or_else(|| mask("end", body[2]))
+}
+
+fn edge(file: &[u8], place: &Place, edge: &Edge) -> Option<String> {
+    let states = place.earlier(2).next().map(|field| file[field.body.start])?;
+    let reasons = [
+        (edge.from >= states, format!("its first state {} is not below {states}", edge.from)),
+        (edge.to >= states, format!("its second state {} is not below {states}", edge.to)),
+        (edge.kind > 4, format!("the kind {} is above 4", edge.kind)),
+        (edge.gap > 1023, format!("the gap {} is above 1023", edge.gap)),
+        (
+            edge.kind < 2 && edge.gap > 0,
+            format!("the gap is {}, but kind {} has none", edge.gap, edge.kind_text()),
+        ),
+        (edge.class > 15, format!("the class {} is above 15", edge.class)),
+    ];
+    reasons.into_iter().find(|(holds, _)| *holds).map(|(_, reason)| reason)
+}
+
+fn same_edge(file: &[u8], place: &Place, edge: &Edge) -> Option<String> {
+    let key = |edge: &Edge| (edge.from, edge.to, edge.kind);
+    let earlier = place.earlier(3).position(|field| key(&edge_of(&file[field.body.clone()])) == key(edge))?;
+    let kind = KINDS.get(usize::from(edge.kind))?;
+    Some(format!(
+        "edge {earlier} already leads from state {} to state {} with kind {kind}",
+        edge.from, edge.to
+    ))
+}
+
+fn label(body: &[u8]) -> Option<String> {
+    let label = label_of(body);
+    let reasons = [
+        (label.p == 0, "p is 0, but readings are counted from 1".to_string()),
+        (label.q <= label.p, format!("q {} is not above p {}", label.q, label.p)),
+        (label.q > 4096, format!("q {} is above 4096", label.q)),
+        (label.count > 1, format!("the count {} is above 1", label.count)),
+    ];
+    reasons.into_iter().find(|(holds, _)| *holds).map(|(_, reason)| reason)
+}
+
+fn early_label(file: &[u8], place: &Place, body: &[u8]) -> Option<String> {
+    let before = label_of(&file[place.earlier(4).last()?.body.clone()]);
+    Some(format!("it starts at {}, but the label before it goes to {}", label_of(body).p, before.q))
+}
+
+fn run(file: &[u8], place: &Place, body: &[u8]) -> Option<String> {
+    let before = place
+        .earlier(0x82)
+        .last()
+        .map(|field| number(&file[field.body.start + 2..field.body.start + 4]));
+    let (first, last, state, edge) = (number(&body[..2]), number(&body[2..4]), body[4], body[7]);
+    let due = before.map_or(1, |last| last + 1);
+    let reasons = [
+        (first != due, format!("it starts at reading {first}, but {due} is due")),
+        (last < first, format!("it ends at reading {last}, before it starts at {first}")),
+        (last > 4096, format!("it ends at reading {last}, above 4096")),
+        (state > 7, format!("the state {state} is above 7")),
+        (before.is_none() && edge != 255, format!("the first run has edge {edge}, but 255 is due")),
+        (before.is_some() && edge > 31, format!("the edge {edge} is above 31")),
+    ];
+    reasons.into_iter().find(|(holds, _)| *holds).map(|(_, reason)| reason)
+}

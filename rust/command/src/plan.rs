@@ -1,0 +1,148 @@
+//! A plan: grid, states, edges, labels and readings, and its bytes.
+use crate::fields::{encode, number, signed, walk, Field};
+use yeldaski::Refusal;
+
+pub const MAX_READINGS: usize = 4096;
+
+pub const PENALTIES: [u32; 16] = [0, 1, 2, 5, 10, 20, 50, 100, 200, 500, 1000, 2000, 5000, 10000, 20000, 50000];
+
+pub const KINDS: [&str; 5] = ["stay", "any", "up", "down", "abs"];
+
+#[derive(Debug, Clone, Copy, PartialEq, Eq)]
+pub struct Edge {
+    pub from: u8,
+    pub to: u8,
+    pub kind: u8,
+    pub gap: u16,
+    pub class: u8,
+}
+
+impl Edge {
+    pub fn is_change(&self) -> bool {
+        self.kind != 0
+    }
+
+    /// The kind by name, with the gap where it has one.
+    pub fn kind_text(&self) -> String {
+        match (KINDS.get(usize::from(self.kind)), self.kind) {
+            (Some(name), 0 | 1) => name.to_string(),
+            (Some(name), _) => format!("{name} {}", self.gap),
+            (None, kind) => format!("kind {kind}"),
+        }
+    }
+}
+
+#[derive(Debug, Clone, Copy, PartialEq, Eq)]
+pub struct Label {
+    pub p: u16,
+    pub q: u16,
+    pub count: u8,
+}
+
+#[derive(Debug, Clone, PartialEq, Eq)]
+pub struct Plan {
+    pub lo: i16,
+    pub hi: i16,
+    pub states: u8,
+    pub start: u8,
+    pub end: u8,
+    pub edges: Vec<Edge>,
+    pub labels: Vec<Label>,
+    pub readings: Vec<i16>,
+}
+
+impl Plan {
+    /// The plan of a file. The proved reader decides whether there is one, and decodes the readings.
+    pub fn read(file: &[u8]) -> Result<Plan, Refusal> {
+        let mut readings = vec![0; MAX_READINGS];
+        let count = yeldaski::read_plan(file, &mut readings)?;
+        readings.truncate(count);
+        let fields = walk(file);
+        let bodies = |tag: u8| fields.iter().filter(move |field| field.tag == tag).map(|field| &file[field.body.clone()]);
+        // A file that the reader accepts has one whole field 01 and one 02; the zeros below are never used.
+        let grid = bodies(1).next().unwrap_or(&[0; 4]);
+        let states = bodies(2).next().unwrap_or(&[0; 3]);
+        Ok(Plan {
+            lo: signed(&grid[..2]),
+            hi: signed(&grid[2..]),
+            states: states[0],
+            start: states[1],
+            end: states[2],
+            edges: bodies(3).map(edge_of).collect(),
+            labels: bodies(4).map(label_of).collect(),
+            readings,
+        })
+    }
+
+    pub fn levels(&self) -> usize {
+        (i32::from(self.hi) - i32::from(self.lo) + 1) as usize
+    }
+
+    /// The words that a search of this plan has to be lent.
+    pub fn work_words(&self) -> usize {
+        yeldaski::work_words(usize::from(self.states), self.levels())
+    }
+}
+
+/// The edge of a body of six bytes.
+pub fn edge_of(body: &[u8]) -> Edge {
+    Edge {
+        from: body[0],
+        to: body[1],
+        kind: body[2],
+        gap: number(&body[3..5]) as u16,
+        class: body[5],
+    }
+}
+
+/// The label of a body of five bytes.
+pub fn label_of(body: &[u8]) -> Label {
+    Label {
+        p: number(&body[..2]) as u16,
+        q: number(&body[2..4]) as u16,
+        count: body[4],
+    }
+}
+
+pub fn grid_field(lo: i16, hi: i16) -> Vec<u8> {
+    encode(1, &[lo.to_be_bytes(), hi.to_be_bytes()].concat())
+}
+
+pub fn states_field(count: u8, start: u8, end: u8) -> Vec<u8> {
+    encode(2, &[count, start, end])
+}
+
+pub fn edge_field(edge: &Edge) -> Vec<u8> {
+    let gap = edge.gap.to_be_bytes();
+    encode(3, &[edge.from, edge.to, edge.kind, gap[0], gap[1], edge.class])
+}
+
+pub fn label_field(label: &Label) -> Vec<u8> {
+    let (p, q) = (label.p.to_be_bytes(), label.q.to_be_bytes());
+    encode(4, &[p[0], p[1], q[0], q[1], label.count])
+}
+
+/// A length has two bytes, so the list is cut where it no longer fits; the reader refuses long before.
+pub fn readings_field(readings: &[i16]) -> Vec<u8> {
+    let fitting = &readings[..readings.len().min(usize::from(u16::MAX) / 2)];
+    encode(5, &fitting.iter().flat_map(|reading| reading.to_be_bytes()).collect::<Vec<u8>>())
+}
+
+/// The file with some of its labels only, counted from 0.
+pub fn with_labels(file: &[u8], keep: impl Fn(usize) -> bool) -> Vec<u8> {
+    let (labels, others): (Vec<Field>, Vec<Field>) = walk(file).into_iter().partition(|field| field.tag == 4);
+    let (readings, front): (Vec<Field>, Vec<Field>) = others.into_iter().partition(|field| field.tag == 5);
+    let labels = labels.into_iter().enumerate().filter(|(index, _)| keep(*index)).map(|(_, field)| field);
+    let kept = front.into_iter().chain(labels).chain(readings);
+    kept.flat_map(|field| file[field.offset..field.end()].to_vec()).collect()
+}
+
+/// The file with other start and end sets.
+pub fn with_masks(file: &[u8], start: u8, end: u8) -> Vec<u8> {
+    let mut copy = file.to_vec();
+    if let Some(field) = walk(file).iter().find(|field| field.tag == 2 && field.body.len() == 3) {
+        copy[field.body.start + 1] = start;
+        copy[field.body.start + 2] = end;
+    }
+    copy
+}

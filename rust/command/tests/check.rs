@@ -1,0 +1,399 @@
+//! `check`: number, field and byte of refused files typed by hand, by the scope paper's lists and their order.
+mod common;
+use common::{hex, run, PAPER_ANSWER, PAPER_PLAN};
+
+const GRID: &str = "01 0004 0000 0009 ";
+const ONE: &str = "01 0004 0000 0009  02 0003 01 01 01 ";
+const STAY: &str = "03 0006 00 00 00 0000 00 ";
+const READINGS: &str = "05 0004 0003 0004 ";
+const COST: &str = "81 0008 0000000000000001 ";
+const RUN: &str = "82 0008 0001 0002 00 0003 FF ";
+
+/// The lines of a report on a refused file: number, place and cause.
+fn report(file: &str) -> (i32, String) {
+    let done = run(&["check"], &hex(file));
+    assert_eq!(done.err, "");
+    (done.status, done.text())
+}
+
+fn refused(file: &str, number: u8, place: &str, cause: &str) {
+    let (status, text) = report(file);
+    assert_eq!(status, 1, "{file}");
+    assert!(text.contains(&format!("\n  refusal {number}: ")), "{file}: {text}");
+    assert!(text.contains(&format!("\n  {place}\n")), "{file}: {text}");
+    assert!(text.contains(&format!("cause: {cause}")), "{file}: {text}");
+}
+
+#[test]
+fn good_files() {
+    let (status, text) = report(PAPER_PLAN);
+    assert_eq!(status, 0);
+    let lines = "plan file, good\n  grid 0 to 9, 10 levels\n  1 state, 2 edges, 0 labels\n  2 readings from 3 to 4\n";
+    assert_eq!(
+        text,
+        format!("standard input: {lines}  workspace of a search: 480 words\n  a search finds 1 run at cost 1\n")
+    );
+    assert_eq!(
+        report(PAPER_ANSWER),
+        (0, "standard input: answer file, good\n  cost 1, 1 run over 2 readings\n".to_string())
+    );
+    assert_eq!(
+        report("83 0001 07"),
+        (
+            0,
+            "standard input: answer file, good\n  holds refusal 7: same from, to and kind as an earlier edge\n".to_string()
+        )
+    );
+}
+
+#[test]
+fn cut_files() {
+    refused(
+        "",
+        1,
+        "after field 0, at the end of the file, byte 0 (0x0)",
+        "the file ends, but tag 01 (grid) is due",
+    );
+    refused(
+        "01 00",
+        1,
+        "field 1, tag 01 (grid), at byte 0 (0x0)",
+        "the header should have 3 bytes, but the file ends after 2",
+    );
+    refused(
+        "01 0004 0000 00",
+        1,
+        "field 1, tag 01 (grid), at byte 0 (0x0)",
+        "the body should have 4 bytes, but the file ends after 3",
+    );
+    refused(
+        GRID,
+        1,
+        "after field 1, at the end of the file, byte 7 (0x7)",
+        "the file ends, but tag 02 (states) is due",
+    );
+    refused(
+        &[ONE, STAY].concat(),
+        1,
+        "after field 3, at the end of the file, byte 22 (0x16)",
+        "the file ends, but tag 03",
+    );
+    refused(
+        &[ONE, "05 0004 0003 00"].concat(),
+        1,
+        "field 3, tag 05 (readings), at byte 13 (0xD)",
+        "the body should have 4 bytes",
+    );
+    refused(
+        &[ONE, READINGS, "00 00"].concat(),
+        1,
+        "field 4, tag 00 (unknown), at byte 20 (0x14)",
+        "the header should have 3 bytes",
+    );
+    refused(
+        COST,
+        1,
+        "after field 1, at the end of the file, byte 11 (0xB)",
+        "the file ends, but tag 82 (run) is due",
+    );
+    refused(
+        "83 0001 07 83",
+        1,
+        "field 2, tag 83 (refusal), at byte 4 (0x4)",
+        "the header should have 3 bytes, but the file ends after 1",
+    );
+}
+
+#[test]
+fn tags_and_lengths() {
+    refused(
+        "02 0003 01 01 01",
+        2,
+        "field 1, tag 02 (states), at byte 0 (0x0)",
+        "tag 02 stands where tag 01 (grid) is due",
+    );
+    refused(
+        &[GRID, GRID].concat(),
+        2,
+        "field 2, tag 01 (grid), at byte 7 (0x7)",
+        "tag 01 stands where tag 02",
+    );
+    refused(
+        &[ONE, "04 0005 0001 0002 00", STAY].concat(),
+        2,
+        "field 4, tag 03 (edge 0), at byte 21 (0x15)",
+        "tag 03 stands where tag 04",
+    );
+    refused(
+        &[ONE, READINGS, "05 0001"].concat(),
+        2,
+        "field 4, tag 05 (readings), at byte 20 (0x14)",
+        "tag 05 stands where the end of the file is due",
+    );
+    refused(
+        "01 0003 0000 09",
+        3,
+        "field 1, tag 01 (grid), at byte 0 (0x0)",
+        "the length is 3, but should be 4",
+    );
+    refused(
+        &[ONE, "05 0003 0003 00"].concat(),
+        3,
+        "field 3, tag 05 (readings), at byte 13 (0xD)",
+        "the length 3 is odd",
+    );
+    refused(
+        &[COST, "83 0001 07"].concat(),
+        2,
+        "field 2, tag 83 (refusal), at byte 11 (0xB)",
+        "tag 83 stands where tag 82",
+    );
+    refused(
+        &[COST, RUN, COST].concat(),
+        2,
+        "field 3, tag 81 (cost), at byte 22 (0x16)",
+        "tag 81 stands where tag 82 (run) or the end",
+    );
+    refused(
+        "82 0008 0001",
+        2,
+        "field 1, tag 82 (run 1), at byte 0 (0x0)",
+        "tag 82 stands where tag 81",
+    );
+    // A wrong length goes before a cut body, and a wrong tag before both.
+    refused("01 0009 00", 3, "field 1, tag 01 (grid), at byte 0 (0x0)", "the length is 9");
+    refused(
+        "06 FFFF 00",
+        2,
+        "field 1, tag 06 (unknown), at byte 0 (0x0)",
+        "tag 06 stands where tag 01",
+    );
+}
+
+#[test]
+fn contents_of_a_plan() {
+    let two = [GRID, "02 0003 02 03 02 "].concat();
+    let after_two = "field 3, tag 03 (edge 0), at byte 13 (0xD)";
+    refused("01 0004 0009 0000", 4, "field 1, tag 01 (grid), at byte 0 (0x0)", "hi 0 is below lo 9");
+    refused(
+        "01 0004 FFFF 03FF",
+        4,
+        "field 1, tag 01 (grid), at byte 0 (0x0)",
+        "hi 1023 - lo -1 is 1024",
+    );
+    refused(
+        &[GRID, "02 0003 00 01 01"].concat(),
+        5,
+        "field 2, tag 02 (states), at byte 7 (0x7)",
+        "0 states",
+    );
+    refused(
+        &[GRID, "02 0003 09 01 01"].concat(),
+        5,
+        "field 2, tag 02 (states), at byte 7 (0x7)",
+        "9 states",
+    );
+    refused(
+        &[GRID, "02 0003 02 00 01"].concat(),
+        5,
+        "field 2, tag 02 (states), at byte 7 (0x7)",
+        "the start mask is empty",
+    );
+    refused(
+        &[GRID, "02 0003 02 01 04"].concat(),
+        5,
+        "field 2, tag 02 (states), at byte 7 (0x7)",
+        "the end mask 00000100 has a bit",
+    );
+    refused(
+        &[&two, "03 0006 02 00 00 0000 00"].concat(),
+        6,
+        after_two,
+        "its first state 2 is not below 2",
+    );
+    refused(
+        &[&two, "03 0006 00 07 00 0000 00"].concat(),
+        6,
+        after_two,
+        "its second state 7 is not below 2",
+    );
+    refused(&[&two, "03 0006 00 00 05 0000 00"].concat(), 6, after_two, "the kind 5 is above 4");
+    refused(&[&two, "03 0006 00 00 02 0400 00"].concat(), 6, after_two, "the gap 1024 is above 1023");
+    refused(
+        &[&two, "03 0006 00 00 01 0001 00"].concat(),
+        6,
+        after_two,
+        "the gap is 1, but kind any has none",
+    );
+    refused(&[&two, "03 0006 00 00 04 0001 10"].concat(), 6, after_two, "the class 16 is above 15");
+    refused(
+        &[ONE, STAY, "03 0006 00 00 00 0000 05"].concat(),
+        7,
+        "field 4, tag 03 (edge 1), at byte 22 (0x16)",
+        "edge 0 already leads",
+    );
+    refused(
+        &[ONE, "05 0000"].concat(),
+        9,
+        "field 3, tag 05 (readings), at byte 13 (0xD)",
+        "0 readings",
+    );
+    refused(
+        &[ONE, "05 2002"].concat(),
+        9,
+        "field 3, tag 05 (readings), at byte 13 (0xD)",
+        "4097 readings",
+    );
+}
+
+#[test]
+fn labels_of_a_plan() {
+    let label = "field 3, tag 04 (label 1), at byte 13 (0xD)";
+    refused(&[ONE, "04 0005 0000 0002 00"].concat(), 8, label, "p is 0");
+    refused(&[ONE, "04 0005 0002 0002 00"].concat(), 8, label, "q 2 is not above p 2");
+    refused(&[ONE, "04 0005 0002 1001 00"].concat(), 8, label, "q 4097 is above 4096");
+    refused(&[ONE, "04 0005 0001 0002 02"].concat(), 8, label, "the count 2 is above 1");
+    let two = [ONE, "04 0005 0001 0003 00", "04 0005 0002 0004 00"].concat();
+    refused(
+        &two,
+        12,
+        "field 4, tag 04 (label 2), at byte 21 (0x15)",
+        "it starts at 2, but the label before it goes to 3",
+    );
+    let many: String = (1..66).map(|p| format!("04 0005 {p:04X} {:04X} 00", p + 1)).collect();
+    refused(
+        &[ONE, &many].concat(),
+        10,
+        "field 67, tag 04 (label 65), at byte 525 (0x20D)",
+        "it is the 65th label",
+    );
+}
+
+#[test]
+fn contents_of_an_answer() {
+    let first = "field 2, tag 82 (run 1), at byte 11 (0xB)";
+    let second = "field 3, tag 82 (run 2), at byte 22 (0x16)";
+    refused(
+        &[COST, "82 0008 0002 0002 00 0003 FF"].concat(),
+        17,
+        first,
+        "it starts at reading 2, but 1 is due",
+    );
+    refused(&[COST, "82 0008 0001 0000 00 0003 FF"].concat(), 17, first, "it ends at reading 0");
+    refused(&[COST, "82 0008 0001 1001 00 0003 FF"].concat(), 17, first, "it ends at reading 4097");
+    refused(&[COST, "82 0008 0001 0001 08 0003 FF"].concat(), 17, first, "the state 8 is above 7");
+    refused(&[COST, "82 0008 0001 0001 00 0003 00"].concat(), 17, first, "the first run has edge 0");
+    refused(
+        &[COST, RUN, "82 0008 0002 0003 00 0003 00"].concat(),
+        17,
+        second,
+        "it starts at reading 2, but 3 is due",
+    );
+    refused(
+        &[COST, RUN, "82 0008 0003 0003 00 0003 20"].concat(),
+        17,
+        second,
+        "the edge 32 is above 31",
+    );
+    refused("83 0001 00", 17, "field 1, tag 83 (refusal), at byte 0 (0x0)", "0 is no refusal number");
+}
+
+/// Files that can be read, but not searched.
+#[test]
+fn refusals_of_a_search() {
+    let text = |labels: &str| {
+        run(
+            &["make"],
+            format!("grid 0 to 3\nstate a start end\nedge a->a stay\n{labels}readings 1 2 3\n").as_bytes(),
+        )
+        .out
+    };
+    let check = |file: &[u8]| run(&["check"], file);
+    let beyond = check(&text("label 1 to 3 changes 0\nlabel 3 to 9 changes 0\n"));
+    assert_eq!(beyond.status, 1);
+    assert!(beyond.text().contains("refusal 13: "), "{}", beyond.text());
+    assert!(beyond
+        .text()
+        .contains("\n  field 5, tag 04 (label 2), at byte 30 (0x1E)\n  cause: the label goes to reading 9, but there are 3\n"));
+    // A stay is no change, so the second of these labels cannot hold.
+    let label = check(&text("label 1 to 2 changes 0\nlabel 2 to 3 changes 1\n"));
+    assert!(label.text().contains("refusal 16: ") && label.status == 1);
+    assert!(label
+        .text()
+        .contains("\n  field 5, tag 04 (label 2), at byte 30 (0x1E)\n  cause: the label (readings 2 to 3, 1 change) cannot hold\n"));
+    refused(
+        &[ONE, READINGS].concat(),
+        16,
+        "cause: the edges allow no chain of 2 readings; is a stay missing, or a gap wider than the grid?",
+        "",
+    );
+    let states = "field 2, tag 02 (states), at byte 7 (0x7)";
+    refused(
+        &[GRID, "02 0003 02 01 02", STAY, READINGS].concat(),
+        16,
+        states,
+        "no segmentation ends in a state of the end mask",
+    );
+    // State 1 alone can last, but the record may not start in it.
+    refused(
+        &[GRID, "02 0003 02 01 02 03 0006 01 01 00 0000 00", READINGS].concat(),
+        16,
+        states,
+        "no segmentation starts",
+    );
+}
+
+/// Two labels that hold alone but not together: the one up that is allowed cannot be used twice.
+#[test]
+fn labels_that_exclude_each_other() {
+    let text = "grid 0 to 3\nstate a start\nstate b end\nedge a->a stay\nedge b->b stay\nedge a->b up 1 penalty 1\n\
+                label 1 to 2 changes 1\nlabel 2 to 3 changes 1\nreadings 1 2 3\n";
+    let done = run(&["check"], &run(&["make"], text.as_bytes()).out);
+    assert!(
+        done.text()
+            .contains("cause: the label (readings 2 to 3, 1 change) cannot hold together with the labels before it\n"),
+        "{}",
+        done.text()
+    );
+}
+
+/// Every cut and every changed byte: the located field always agrees with the number, and `run` gives the same number.
+#[test]
+fn damaged_files() {
+    let plan = hex(&[
+        GRID,
+        "02 0003 02 03 02",
+        STAY,
+        "03 0006 00 01 02 0001 01",
+        "04 0005 0001 0002 01",
+        READINGS,
+    ]
+    .concat());
+    for file in [plan, hex(PAPER_ANSWER), hex("83 0001 07")] {
+        let mut damaged: Vec<Vec<u8>> = (0..file.len()).map(|end| file[..end].to_vec()).collect();
+        for at in 0..file.len() {
+            for value in [0, 1, 2, 4, 0x10, 0x7F, 0x82, 0x83, 0xFF, file[at] ^ 1] {
+                damaged.push([&file[..at], &[value], &file[at + 1..]].concat());
+            }
+        }
+        for file in damaged {
+            let done = run(&["check"], &file);
+            let text = done.text();
+            assert!(
+                !text.contains("could not be found") && !text.contains("cause: unknown"),
+                "{file:02X?}: {text}"
+            );
+            assert_eq!(
+                text.contains("refused\n") || text.contains("  refusal "),
+                done.status == 1,
+                "{file:02X?}: {text}"
+            );
+            let is_answer = file.first().is_some_and(|tag| (0x81..=0x83).contains(tag));
+            if !is_answer && done.status == 1 {
+                assert!(text.contains("\n  cause: "), "{file:02X?}: {text}");
+                let number = run(&["run"], &file).out[3];
+                assert!(text.contains(&format!("\n  refusal {number}: ")), "{file:02X?}: {text}");
+            }
+        }
+    }
+}

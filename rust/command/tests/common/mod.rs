@@ -1,0 +1,74 @@
+//! Runs the built program.
+#![allow(dead_code)]
+
+use std::fs;
+use std::io::Write;
+use std::path::PathBuf;
+use std::process::{Command, Stdio};
+
+pub struct Done {
+    pub status: i32,
+    pub out: Vec<u8>,
+    pub err: String,
+}
+
+impl Done {
+    pub fn text(&self) -> String {
+        String::from_utf8(self.out.clone()).expect("output in UTF-8")
+    }
+}
+
+pub fn program() -> Command {
+    Command::new(env!("CARGO_BIN_EXE_yeldaski"))
+}
+
+/// An empty folder of its own for a test.
+pub fn folder(test: &str) -> PathBuf {
+    let folder = PathBuf::from(env!("CARGO_TARGET_TMPDIR")).join(test);
+    let _ = fs::remove_dir_all(&folder);
+    fs::create_dir_all(&folder).expect("folder");
+    folder
+}
+
+/// Runs the program in a folder, with an input on standard input. No test may see a panic.
+pub fn run_in(folder: &PathBuf, args: &[&str], input: &[u8]) -> Done {
+    let mut command = program();
+    command.args(args).current_dir(folder);
+    let mut child = command
+        .stdin(Stdio::piped())
+        .stdout(Stdio::piped())
+        .stderr(Stdio::piped())
+        .spawn()
+        .expect("program");
+    let mut stdin = child.stdin.take().expect("stdin");
+    let input = input.to_vec();
+    // The program may stop before it has read everything.
+    let writer = std::thread::spawn(move || drop(stdin.write_all(&input)));
+    let output = child.wait_with_output().expect("output");
+    writer.join().expect("writer");
+    let err = String::from_utf8(output.stderr).expect("messages in UTF-8");
+    assert!(!err.contains("panicked"), "{args:?}: {err}");
+    Done {
+        status: output.status.code().expect("exit status"),
+        out: output.stdout,
+        err,
+    }
+}
+
+pub fn run(args: &[&str], input: &[u8]) -> Done {
+    run_in(&PathBuf::from(env!("CARGO_TARGET_TMPDIR")), args, input)
+}
+
+/// Bytes from hexadecimal digits; blanks do not count.
+pub fn hex(digits: &str) -> Vec<u8> {
+    let digits: Vec<u32> = digits
+        .chars()
+        .filter(|c| !c.is_whitespace())
+        .map(|c| c.to_digit(16).expect("digit"))
+        .collect();
+    digits.chunks(2).map(|pair| (pair[0] * 16 + pair[1]) as u8).collect()
+}
+
+/// The whole example of the scope paper: plan file and answer file.
+pub const PAPER_PLAN: &str = "01 0004 0000 0009  02 0003 01 01 01  03 0006 00 00 00 0000 00  03 0006 00 00 01 0000 04  05 0004 0003 0004";
+pub const PAPER_ANSWER: &str = "81 0008 0000000000000001  82 0008 0001 0002 00 0003 FF";

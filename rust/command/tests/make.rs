@@ -1,0 +1,231 @@
+//! `make`: bytes worked out by hand from the table of fields, and messages with line numbers.
+mod common;
+use common::{folder, hex, run, run_in, PAPER_PLAN};
+use std::fs;
+
+const PAPER_TEXT: &str = "grid 0 to 9\nstate only start end\nedge only -> only stay\nedge only -> only any penalty 10\nreadings 3 4\n";
+
+fn made(text: &str) -> Vec<u8> {
+    let done = run(&["make"], text.as_bytes());
+    assert_eq!((done.status, done.err.as_str()), (0, ""), "{text}");
+    done.out
+}
+
+#[test]
+fn example_of_the_paper() {
+    assert_eq!(made(PAPER_TEXT), hex(PAPER_PLAN));
+}
+
+#[test]
+fn every_kind_of_field() {
+    let text = "
+        # two states, negative grid
+        grid -300 to -2            # lo FED4, hi FFFE
+        state \"brand new\" start  # bit 0 of the start mask
+        state worn start end
+        edge \"brand new\"->worn up 5 penalty 50000
+        edge worn -> \"brand new\" down 1023 class 9
+        edge worn -> worn abs 258 penalty 0
+        edge worn -> worn any class 0
+        edge worn -> worn stay
+        label 1 to 2 changes 0
+        label 2 to 258 changes 1
+        readings -1 32767
+        readings -32768
+    ";
+    let bytes = "01 0004 FED4 FFFE  02 0003 02 03 02
+        03 0006 00 01 02 0005 0F  03 0006 01 00 03 03FF 09  03 0006 01 01 04 0102 00  03 0006 01 01 01 0000 00  03 0006 01 01 00 0000 00
+        04 0005 0001 0002 00  04 0005 0002 0102 01  05 0006 FFFF 7FFF 8000";
+    let done = run(&["make"], text.as_bytes());
+    assert_eq!((done.status, done.out), (0, hex(bytes)));
+    assert!(
+        done.err
+            .starts_with("standard input:12: warning: the label goes to reading 258, but there are 3"),
+        "{}",
+        done.err
+    );
+}
+
+#[test]
+fn all_penalties_by_value_and_class() {
+    let penalties = [0, 1, 2, 5, 10, 20, 50, 100, 200, 500, 1000, 2000, 5000, 10000, 20000, 50000];
+    for (class, penalty) in penalties.iter().enumerate() {
+        let by_value = made(&PAPER_TEXT.replace("penalty 10", &format!("penalty {penalty}")));
+        assert_eq!(by_value[30], class as u8);
+        assert_eq!(by_value, made(&PAPER_TEXT.replace("penalty 10", &format!("class {class}"))));
+    }
+}
+
+#[test]
+fn readings_from_files() {
+    let folder = folder("readings_from_files");
+    let files = [
+        ("plain.csv", "3\n4\n", ""),
+        ("crlf.csv", "# a comment\r\n3\r\n4\r\n\r\n", ""),
+        ("named.csv", "time,\"motor, current\"\n1,3\n2,4\n", " column \"motor, current\""),
+        ("mark.csv", "\u{feff}a;b\n3;1\n4;2\n", " column a"),
+        ("commas.csv", "volt;amp\n1,5;3\n1,6;4\n", " column amp"),
+        ("tabs.csv", "x\t3\ny\t 4 \n", " column 2"),
+    ];
+    for (name, content, column) in files {
+        fs::write(folder.join(name), content).expect("file");
+        let text = PAPER_TEXT.replace("readings 3 4", &format!("readings from {name}{column}"));
+        fs::write(folder.join("plan.txt"), text).expect("file");
+        let done = run_in(&folder, &["make", "plan.txt", "-o", "made.plan"], b"");
+        assert_eq!((done.status, done.err.as_str()), (0, ""), "{name}");
+        assert_eq!(fs::read(folder.join("made.plan")).expect("plan"), hex(PAPER_PLAN), "{name}");
+    }
+}
+
+#[test]
+fn readings_are_looked_for_beside_the_text() {
+    let folder = folder("beside");
+    fs::create_dir(folder.join("inner")).expect("folder");
+    fs::write(folder.join("inner/z.csv"), "3\n4\n").expect("file");
+    fs::write(folder.join("inner/plan.txt"), PAPER_TEXT.replace("readings 3 4", "readings from z.csv")).expect("file");
+    assert_eq!(run_in(&folder, &["make", "inner/plan.txt"], b"").out, hex(PAPER_PLAN));
+}
+
+#[test]
+fn readings_from_standard_input() {
+    let folder = folder("standard_input");
+    fs::create_dir(folder.join("inner")).expect("folder");
+    let text = PAPER_TEXT.replace("readings 3 4", "readings from - column b");
+    fs::write(folder.join("inner/plan.txt"), &text).expect("file");
+    assert_eq!(run_in(&folder, &["make", "inner/plan.txt"], b"a,b\n1,3\n2,4\n").out, hex(PAPER_PLAN));
+    fs::write(folder.join("twice.txt"), text.clone() + "readings from -\n").expect("file");
+    for done in [run_in(&folder, &["make", "twice.txt"], b""), run_in(&folder, &["make"], text.as_bytes())] {
+        assert_eq!(done.status, 2);
+        assert!(done.err.contains("standard input is asked for twice"), "{}", done.err);
+    }
+}
+
+/// Status, the line that the message must name, and words that must stand in it.
+fn refused(text: &str, line: usize, words: &str) {
+    let done = run(&["make"], text.as_bytes());
+    assert_eq!((done.status, done.out.len()), (1, 0), "{text}");
+    assert!(done.err.starts_with(&format!("standard input:{line}: ")), "{text}: {}", done.err);
+    assert!(done.err.contains(words), "{text}: {}", done.err);
+}
+
+#[test]
+fn errors_in_the_text() {
+    let cases = [
+        ("grid 0 to 9", "grid 0 9", 1, "expected 'to', found '9'"),
+        ("grid 0 to 9", "grid 0 to", 1, "but the line ends"),
+        ("grid 0 to 9", "grid 0 to 40000", 1, "from -32768 to 32767, found '40000'"),
+        ("grid 0 to 9", "gird 0 to 9", 1, "grid, state, edge, label or readings, found 'gird'"),
+        ("start end", "start edn", 2, "expected 'start', 'end'"),
+        ("start end", "start end\nstate only", 3, "given twice, first in line 2"),
+        ("only stay", "other stay", 3, "('only'), found 'other'"),
+        ("-> only stay", "only stay", 3, "expected '->'"),
+        ("stay", "hover", 3, "a kind (stay, any, up, down, abs), found 'hover'"),
+        ("stay", "up", 3, "the gap as a whole number from 0 to 1023"),
+        ("stay", "up 70000 penalty 5", 3, "from 0 to 1023, found '70000'"),
+        ("penalty 10", "penalty 11", 4, "one of the sixteen penalties (0, 1, 2, 5, 10,"),
+        (" penalty 10", "", 4, "'penalty N' or 'class N'"),
+        ("penalty 10", "penalty 10 10", 4, "expected the end of the line, found '10'"),
+        ("readings", "label 1 to 2\nreadings", 5, "expected 'changes'"),
+        ("readings 3 4", "readings 3 4.5", 5, "found '4.5'"),
+        ("readings 3 4", "readings from z.csv column 0", 5, "counted from 1"),
+        ("only start", "\"only start", 2, "not closed"),
+    ];
+    for (old, new, line, words) in cases {
+        refused(&PAPER_TEXT.replacen(old, new, 1), line, words);
+    }
+}
+
+#[test]
+fn missing_statements() {
+    for statement in ["grid", "state", "readings"] {
+        let kept: Vec<&str> = PAPER_TEXT
+            .lines()
+            .filter(|line| !line.starts_with(statement) && !line.starts_with("edge"))
+            .collect();
+        let done = run(&["make"], kept.join("\n").as_bytes());
+        assert_eq!(done.status, 1);
+        assert!(done.err.contains(&format!("no line '{statement}'")), "{}", done.err);
+    }
+}
+
+/// The numbers are those that the paper gives for the field; each stands with the line that made it.
+#[test]
+fn refusals_of_the_reader() {
+    let long = |count: usize| format!("readings {}", "1 ".repeat(count));
+    let edges: String = (0..33).map(|i| format!("edge only -> only up {i} penalty 0\n")).collect();
+    let states: String = (0..9).map(|i| format!("state s{i} start end\n")).collect();
+    let labels: String = (1..66).map(|i| format!("label {i} to {} changes 0\n", i + 1)).collect();
+    let cases = [
+        ("grid 0 to 9", "grid 9 to 0", 1, "refusal 4: "),
+        ("grid 0 to 9", "grid 0 to 1024", 1, "refusal 4: "),
+        ("start end", "start", 2, "refusal 5: "),
+        ("start end", "end", 2, "no state is marked 'start'"),
+        ("start end\n", &format!("start end\n{states}"), 10, "refusal 5: "),
+        ("stay", "stay 5", 3, "refusal 6: "),
+        ("stay", "up 1024 penalty 5", 3, "refusal 6: "),
+        ("penalty 10", "class 16", 4, "refusal 6: "),
+        ("edge only -> only any penalty 10", &edges, 5, "refusal 7: "),
+        ("any penalty 10", "stay penalty 10", 4, "line 3 has these two states"),
+        ("readings", "label 0 to 2 changes 1\nreadings", 5, "refusal 8: "),
+        ("readings", "label 1 to 2 changes 2\nreadings", 5, "refusal 8: "),
+        ("readings", &format!("{labels}readings"), 69, "refusal 10: "),
+        ("readings", "label 1 to 3 changes 1\nlabel 2 to 4 changes 1\nreadings", 6, "refusal 12: "),
+        (
+            "readings 3 4",
+            &long(4097),
+            5,
+            "refusal 9: no readings or more than 4,096; here: 4097 readings",
+        ),
+        ("readings 3 4", &long(40000), 5, "here: 40000 readings"),
+    ];
+    for (old, new, line, words) in cases {
+        refused(&PAPER_TEXT.replacen(old, new, 1), line, words);
+    }
+    assert_eq!(
+        made(&PAPER_TEXT.replacen("readings 3 4", &long(4096), 1)).len(),
+        7 + 6 + 9 + 9 + 3 + 2 * 4096
+    );
+}
+
+#[test]
+fn edge_33() {
+    let states: String = (0..8).map(|i| format!("state s{i} start end\n")).collect();
+    let edge = |i: usize| format!("edge s{} -> s{} stay\n", i / 8, i % 8);
+    let text = |count: usize| format!("grid 0 to 9\n{states}{}readings 1\n", (0..count).map(edge).collect::<String>());
+    assert_eq!(made(&text(32)).len(), 7 + 6 + 32 * 9 + 5);
+    refused(&text(33), 42, "refusal 10: ");
+}
+
+#[test]
+fn errors_in_a_csv_file() {
+    let folder = folder("csv_errors");
+    let cases = [
+        ("a,b\n1,2\nx,4\n", "column a", "z.csv:3: expected a reading", "found 'x'"),
+        ("a,b\n1,2\n3\n", "column b", "z.csv:3: expected at least 2 columns, found 1", ""),
+        ("a,b\n1,2\n", "column c", "z.csv:1: expected a column named 'c'", "'a', 'b'"),
+        ("a,b\n1,2\n", "column 1", "z.csv:1: expected a reading", "choose the column by its name"),
+        ("1,2\n", "", "z.csv:1: expected one number a line, found 2 columns", ""),
+        ("1\n\n2\n", "", "z.csv:2: expected a reading, but the line is empty", ""),
+        ("1\n32768\n", "", "z.csv:2: expected a reading", "found '32768'"),
+        ("a\n", "column a", "plan.txt:5: refusal 9: ", "0 readings"),
+    ];
+    for (content, column, start, words) in cases {
+        fs::write(folder.join("z.csv"), content).expect("file");
+        fs::write(folder.join("plan.txt"), PAPER_TEXT.replace("3 4", &format!("from z.csv {column}"))).expect("file");
+        let done = run_in(&folder, &["make", "plan.txt"], b"");
+        assert_eq!(done.status, 1, "{content}");
+        assert!(done.err.starts_with(start) && done.err.contains(words), "{content}: {}", done.err);
+    }
+    fs::remove_file(folder.join("z.csv")).expect("file");
+    let done = run_in(&folder, &["make", "plan.txt"], b"");
+    assert_eq!(done.status, 2);
+    assert!(done.err.starts_with("plan.txt:5: cannot read 'z.csv'"), "{}", done.err);
+}
+
+#[test]
+fn rubbish_is_no_text() {
+    let done = run(&["make"], &hex("FF FE 00 41 0A 00"));
+    assert_eq!(done.status, 1);
+    assert!(done.err.starts_with("standard input:1: expected a plan text"), "{}", done.err);
+    assert!(run(&["make"], &hex(PAPER_PLAN)).err.contains("looks like a plan file"));
+}

@@ -1,0 +1,142 @@
+//! `run` and `show`: the examples of the scope paper, and refusals.
+mod common;
+use common::{folder, hex, run, run_in, PAPER_ANSWER, PAPER_PLAN};
+use std::fs;
+
+#[test]
+fn example_of_the_paper() {
+    let done = run(&["run"], &hex(PAPER_PLAN));
+    assert_eq!((done.status, done.err.as_str(), done.out), (0, "", hex(PAPER_ANSWER)));
+}
+
+#[test]
+fn files_and_standard_streams() {
+    let folder = folder("streams");
+    fs::write(folder.join("p"), hex(PAPER_PLAN)).expect("file");
+    assert_eq!(run_in(&folder, &["run", "p"], b"").out, hex(PAPER_ANSWER));
+    assert_eq!(run_in(&folder, &["run", "-", "-o", "-"], &hex(PAPER_PLAN)).out, hex(PAPER_ANSWER));
+    for output in [vec!["-o", "a"], vec!["-oa"], vec!["--output", "a"], vec!["--output=a"]] {
+        let done = run_in(&folder, &[vec!["run", "p"], output].concat(), b"");
+        assert_eq!((done.status, done.out.len()), (0, 0));
+        assert_eq!(fs::read(folder.join("a")).expect("answer"), hex(PAPER_ANSWER));
+        fs::remove_file(folder.join("a")).expect("answer");
+    }
+}
+
+/// Text to plan file to answer file to CSV.
+fn answer(text: &str) -> String {
+    let plan = run(&["make"], text.as_bytes());
+    assert_eq!(plan.status, 0, "{}", plan.err);
+    let done = run(&["show", "--format", "csv"], &run(&["run"], &plan.out).out);
+    done.text()
+        .lines()
+        .skip(1)
+        .map(|line| line.split_once(',').expect("row").1.to_string() + "\n")
+        .collect()
+}
+
+/// Plan A of the paper: one state, stay and any.
+fn a(grid: &str, class: u8, labels: &str, readings: &str) -> String {
+    answer(&format!(
+        "grid {grid}\nstate s start end\nedge s -> s stay\nedge s -> s any class {class}\n{labels}\nreadings {readings}\n"
+    ))
+}
+
+/// Plan B of the paper: up from state 0 to state 1, down back.
+fn b(gap: u16) -> String {
+    answer(&format!(
+        "grid 0 to 6\nstate s start end\nstate t\nedge s->s stay\nedge t->t stay\nedge s->t up {gap} class 1\nedge t->s down 0 class 0\n\
+         readings 1 5 5 1\n"
+    ))
+}
+
+/// Rows are first, last, state, level, edge, cost, as the paper's section of examples gives them.
+#[test]
+fn examples_of_the_paper() {
+    let toy = "2 1 0 4";
+    assert_eq!(a("0 to 4", 1, "", toy), "1,1,0,2,start,3\n2,3,0,0,1,3\n4,4,0,4,1,3\n");
+    assert_eq!(a("0 to 4", 4, "", toy), "1,4,0,2,start,9\n");
+    assert_eq!(a("0 to 4", 1, "label 1 to 4 changes 0", toy), "1,4,0,2,start,9\n");
+    assert_eq!(
+        a("0 to 4", 1, "label 2 to 3 changes 1", toy),
+        "1,2,0,1,start,3\n3,3,0,0,1,3\n4,4,0,4,1,3\n"
+    );
+    assert_eq!(a("-9 to 0", 4, "", "-3 -4"), "1,2,0,-4,start,1\n");
+    assert_eq!(a("0 to 9", 0, "", "3 3"), "1,2,0,3,start,0\n");
+    let swapped = "grid 0 to 9\nstate s start end\nedge s -> s any class 0\nedge s -> s stay\nreadings 3 3\n";
+    assert_eq!(answer(swapped), "1,1,0,3,start,0\n2,2,0,3,0,0\n");
+    assert_eq!(b(0), "1,1,0,1,start,1\n2,3,1,5,2,1\n4,4,0,1,3,1\n");
+    assert_eq!(b(5), "1,1,0,0,start,2\n2,3,1,5,2,2\n4,4,0,1,3,2\n");
+    assert_eq!(b(7), "1,4,0,3,start,16\n");
+}
+
+#[test]
+fn refused_plans_have_answer_files() {
+    let cases = [
+        ("", 1),
+        ("00", 1),
+        ("55 0000", 2),
+        ("01 0004 0009 0000", 4),
+        // One reading in state 0, but the record must end in state 1.
+        ("01 0004 0000 0006  02 0003 02 01 02  03 0006 00 00 00 0000 00  05 0002 0001", 16),
+        // A label to reading 3 in a record of two.
+        ("01 0004 0000 0009  02 0003 01 01 01  04 0005 0001 0003 01  05 0004 0003 0004", 13),
+    ];
+    for (plan, number) in cases {
+        let done = run(&["run"], &hex(plan));
+        assert_eq!((done.status, done.out), (1, vec![0x83, 0, 1, number]), "{plan}");
+        assert!(done.err.contains(&format!("refusal {number}: ")), "{}", done.err);
+    }
+}
+
+/// A grid of 1,024 levels needs 49,152 words, more than the program `segment` lends.
+#[test]
+fn workspace_as_large_as_needed() {
+    let plan = "01 0004 8000 83FF  02 0003 01 01 01  03 0006 00 00 00 0000 00  05 0004 8000 8002";
+    assert_eq!(
+        run(&["run"], &hex(plan)).out,
+        hex("81 0008 0000000000000002  82 0008 0001 0002 00 8001 FF")
+    );
+}
+
+#[test]
+fn a_full_record() {
+    let text = format!(
+        "grid 0 to 1\nstate s start end\nedge s -> s any penalty 0\nreadings {}\n",
+        "0 1 ".repeat(2048)
+    );
+    let plan = run(&["make"], text.as_bytes());
+    let answer = run(&["run"], &plan.out);
+    assert_eq!((answer.status, answer.out.len()), (0, 11 + 11 * 4096));
+    assert_eq!(answer.out[..22], hex("81 0008 0000000000000000  82 0008 0001 0001 00 0000 FF"));
+    assert_eq!(answer.out[11 * 4096..], hex("82 0008 1000 1000 00 0001 00"));
+}
+
+/// A belt that wears, worked out by hand: levels 31 and 42 leave 1 and 2, the change costs 50.
+#[test]
+fn a_belt() {
+    let text = "grid 0 to 79\nstate new start end\nstate worn end\nedge new -> new stay\nedge worn -> worn stay\nedge new -> worn up 6 penalty 50\n\
+                readings 31 30 31 42 43 42 41 42\n";
+    let plan = "01 0004 0000 004F  02 0003 02 01 03  03 0006 00 00 00 0000 00  03 0006 01 01 00 0000 00  03 0006 00 01 02 0006 06
+                05 0010 001F 001E 001F 002A 002B 002A 0029 002A";
+    let answer = "81 0008 0000000000000035  82 0008 0001 0003 00 001F FF  82 0008 0004 0008 01 002A 02";
+    assert_eq!(run(&["make"], text.as_bytes()).out, hex(plan));
+    assert_eq!(run(&["run"], &hex(plan)).out, hex(answer));
+}
+
+/// A pad that leaks for two readings, worked out by hand. Level 23 all along costs 29; with the label a leak is needed, and 22, 26, 22 leave 1 each
+/// beside two penalties of 20.
+#[test]
+fn a_pad_with_a_label() {
+    let text = "grid 0 to 79\nstate tight start end\nstate leaking end\nedge tight -> tight stay\nedge leaking -> leaking stay\n\
+                edge tight -> leaking up 3 penalty 20\nedge leaking -> tight down 3 penalty 20\nlabel 3 to 5 changes 1\n\
+                readings 22 23 22 26 27 22 22 23\n";
+    let plan = "01 0004 0000 004F  02 0003 02 01 03  03 0006 00 00 00 0000 00  03 0006 01 01 00 0000 00  03 0006 00 01 02 0003 05
+                03 0006 01 00 03 0003 05  04 0005 0003 0005 01  05 0010 0016 0017 0016 001A 001B 0016 0016 0017";
+    let label = "04 0005 0003 0005 01";
+    let answer = "81 0008 000000000000002B  82 0008 0001 0003 00 0016 FF  82 0008 0004 0005 01 001A 02  82 0008 0006 0008 00 0016 03";
+    assert_eq!(run(&["make"], text.as_bytes()).out, hex(plan));
+    assert_eq!(run(&["run"], &hex(plan)).out, hex(answer));
+    let without = "81 0008 000000000000001D  82 0008 0001 0008 00 0017 FF";
+    assert_eq!(run(&["run"], &hex(&plan.replace(label, ""))).out, hex(without));
+}
