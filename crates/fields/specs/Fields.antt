@@ -6,7 +6,7 @@ use lib.ListN.{length, getD, drop, take}
 use lib.Dec.{ltb, leb, eqb}
 use Rattle.integers.specs.Pick.{pick}
 use Rattle.integers.specs.Bytes.{word}
-use Rattle.readings.specs.Codec.{countOk}
+use Rattle.plan.specs.Counts.{countOk}
 use Rattle.fields.specs.declared.Row.{Row}
 use Rattle.fields.specs.declared.Field.{Field}
 use Rattle.fields.specs.declared.Field.the-variants.{Body, Wrong}

@@ -13,7 +13,7 @@ use lib.Seq.{take-all, take-add, take-at, drop-at, drop-cons, getD-append-add, g
 use borrow.Author.Tests.{lt-ltb, le-ltb, ltb-false, ltb-true, leb-true, leb-false, le-leb, lt-leb, eqb-true, eqb-false, eq-eqb, ne-eqb}
 use Rattle.integers.specs.Pick.{pick}
 use Rattle.integers.specs.Bytes.{word, word-high, word-low, word-back}
-use Rattle.readings.specs.Codec.{countOk}
+use Rattle.plan.specs.Counts.{countOk}
 use Rattle.readings.specs.Trips.{AllBytes}
 use Rattle.fields.specs.declared.Field.{Field}
 use Rattle.fields.specs.declared.Field.the-variants.{Body, Wrong}

@@ -11,8 +11,8 @@ use lib.Seq.{getD-take, take-take}
 use borrow.Author.Tests.{lt-ltb, le-ltb, ltb-true, ltb-false, leb-true, leb-false, le-leb, lt-leb, eqb-true, eqb-false, eq-eqb, ne-eqb}
 use Rattle.integers.specs.Pick.{pick}
 use Rattle.integers.specs.Bytes.{word}
-use Rattle.readings.specs.Codec.{countOk}
-use Rattle.readings.specs.Trips.{count-is}
+use Rattle.plan.specs.Counts.{countOk}
+use Rattle.plan.specs.Counts.{count-is}
 use Rattle.fields.specs.declared.Field.{Field}
 use Rattle.fields.specs.declared.Field.the-variants.{Body, Wrong}
 use Rattle.fields.specs.Fields.{rowOf, mayStand, lengthFits, countFits, checkedField, fieldAt, partOf}

@@ -78,7 +78,7 @@ fn count_fits(tag: u8, len: usize) -> bool
     ensures { λ r. ⌜ r ≡ countFits tag len ⌝ }
 {
     if tag == 0x05 {
-        return readings::count_ok(len / 2);
+        return plan::count_ok(len / 2);
     }
     true
 }

@@ -17,8 +17,10 @@ use mir.Val.{SFits}
 use borrow.Author.Tests.{eq-eqb, ne-eqb, eqb-true, eqb-false}
 use Rattle.integers.specs.Pick.{pick}
 use Rattle.integers.specs.Bytes.{word-back, signed-bits, bits16, signed16}
-use Rattle.readings.specs.Codec.{readingsOf, bytesOf, countOk}
-use Rattle.readings.specs.Trips.{All16, bytes-length, decode-encode, count-is}
+use Rattle.readings.specs.Codec.{readingsOf, bytesOf}
+use Rattle.plan.specs.Counts.{countOk}
+use Rattle.readings.specs.Trips.{All16, bytes-length, decode-encode}
+use Rattle.plan.specs.Counts.{count-is}
 use Rattle.plan.specs.Build.{pick as choose, gridOk, statesOk, openNumber, openPlan, addEdge, addLabel, sealPlan, changeNumber, planNumber, blank, closed, done, refusedAt, noEdge, noLabel, kindNumber, gapOf, withEdge, withLabel}
 use Rattle.plan.specs.Calls.{edge, label, edgeAt, labelAt}
 use Rattle.plan.specs.declared.Edge.{Edge}

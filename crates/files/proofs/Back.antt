@@ -12,7 +12,8 @@ use lib.Seq.{take-length}
 use lib.IntN.{ℤ}
 use borrow.Author.Tests.{eqb-true, eqb-false, eq-eqb, ne-eqb, le-leb}
 use Rattle.integers.specs.Pick.{pick}
-use Rattle.readings.specs.Codec.{readingsOf, bytesOf, countOk}
+use Rattle.readings.specs.Codec.{readingsOf, bytesOf}
+use Rattle.plan.specs.Counts.{countOk}
 use Rattle.readings.specs.Trips.{AllBytes, readings-length, encode-decode}
 use Rattle.plan.specs.Build.{planNumber, openNumber, openPlan, addEdge, addLabel, sealPlan, blank, closed, done, refusedAt}
 use Rattle.plan.specs.Calls.{Call, edge, label}

@@ -7,7 +7,8 @@ use mathlib.Core.Bool.{Bool, true, false}
 use lib.ListN.{getD, set, replicate}
 use lib.IntN.{ℤ, pos}
 use Rattle.integers.specs.Bytes.{signed16, bits16}
-use Rattle.readings.specs.Codec.{readingsOf, bytesOf, countOk}
+use Rattle.readings.specs.Codec.{readingsOf, bytesOf}
+use Rattle.plan.specs.Counts.{countOk}
 use Rattle.plan.specs.Build.{openPlan, addEdge, addLabel, sealPlan, planNumber, changeNumber, openNumber, edgesNumber, labelsNumber, entryNumber, labelNumber, edgeStep, edgeOf, hasEdge, anyBelow, firstBelow, noEdge, noLabel}
 use Rattle.plan.specs.declared.Plan.{Plan}
 use Rattle.plan.specs.declared.Answer.the-variants.{Done, Refused}

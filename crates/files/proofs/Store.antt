@@ -11,7 +11,8 @@ use lib.Seq.{take-all, drop-drop, take-append-le}
 use lib.IntN.{ℤ}
 use borrow.Rule.Slice.PartMut.{midOf, putMid}
 use borrow.Author.Tests.{ne-eqb, le-leb, lt-leb}
-use Rattle.readings.specs.Codec.{countOk, bytesOf, encoded, encodeNumber}
+use Rattle.readings.specs.Codec.{bytesOf, encoded, encodeNumber}
+use Rattle.plan.specs.Counts.{countOk}
 use Rattle.readings.specs.Trips.{bytes-length}
 use Rattle.plan.specs.Build.{planNumber, noEdge, noLabel}
 use Rattle.plan.specs.declared.Edge.{Edge}

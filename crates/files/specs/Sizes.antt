@@ -11,7 +11,8 @@ use lib.ListN.{length, getD, length-append}
 use lib.IntN.{ℤ}
 use borrow.Author.Tests.{eqb-true, eqb-false, leb-true, leb-false}
 use Rattle.integers.specs.Pick.{pick}
-use Rattle.readings.specs.Codec.{bytesOf, countOk}
+use Rattle.readings.specs.Codec.{bytesOf}
+use Rattle.plan.specs.Counts.{countOk}
 use Rattle.readings.specs.Trips.{bytes-length}
 use Rattle.plan.specs.Build.{firstBelow, planNumber, entryNumber, edgesNumber, labelNumber, labelsNumber, noEdge, noLabel}
 use Rattle.plan.specs.declared.Edge.{Edge}

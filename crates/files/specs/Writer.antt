@@ -7,7 +7,8 @@ use lib.ListN.{length, getD}
 use lib.Dec.{leb, eqb}
 use lib.IntN.{ℤ}
 use Rattle.integers.specs.Pick.{pick}
-use Rattle.readings.specs.Codec.{bytesOf, countOk}
+use Rattle.readings.specs.Codec.{bytesOf}
+use Rattle.plan.specs.Counts.{countOk}
 use Rattle.plan.specs.Build.{planNumber, kindNumber, gapOf, noEdge, noLabel}
 use Rattle.plan.specs.declared.Edge.{Edge}
 use Rattle.plan.specs.declared.Label.{Label}

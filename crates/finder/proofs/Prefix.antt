@@ -8,7 +8,8 @@ use lib.Seq.{take-all, take-take}
 use Rattle.plan.specs.declared.Answer.{Answer}
 use Rattle.plan.specs.declared.Answer.the-variants.{Done, Refused}
 use Rattle.model.specs.Result.{Result, refused}
-use Rattle.readings.specs.Trips.{AllBytes, count-is}
+use Rattle.readings.specs.Trips.{AllBytes}
+use Rattle.plan.specs.Counts.{count-is}
 use Rattle.readings.specs.Codec.{readingsOf}
 use Rattle.fields.specs.Laws.{take-bytes}
 use Rattle.files.specs.declared.FileRead.{FileRead}

@@ -17,7 +17,8 @@ use Rattle.plan.specs.declared.Answer.the-variants.{Done, Refused}
 use Rattle.model.specs.Result.{Result, found, refused}
 use Rattle.search.specs.declared.Found.{Found}
 use Rattle.search.specs.Search.{searchResult, foundOf, runsAfter, wordsAfter, looked}
-use Rattle.readings.specs.Codec.{readingsOf, decodeNumber, decoded, countOk}
+use Rattle.readings.specs.Codec.{readingsOf, decodeNumber, decoded}
+use Rattle.plan.specs.Counts.{countOk}
 use Rattle.readings.specs.Trips.{readings-length}
 use Rattle.fields.specs.Fields.{partOf}
 use Rattle.fields.specs.Put.{outcome, written}

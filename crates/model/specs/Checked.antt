@@ -26,7 +26,8 @@ use Rattle.plan.specs.Build.{pick, anyBelow, firstBelow, kindNumber, gapOf, kin
 use Rattle.model.specs.Model.{edgeAt, labelAt, above, width, inSet, onGrid}
 use Rattle.model.specs.Bools.{clash}
 use Rattle.model.specs.Grid.{above-add}
-unfoldable pub use Rattle.model.specs.Refusals.{countOk, late, searchNumber, pointNumber}
+use Rattle.plan.specs.Counts.{countOk, count-is}
+unfoldable pub use Rattle.model.specs.Refusals.{late, searchNumber, pointNumber}
 
 pub record GoodEdge (P : Plan) (e : ℕ) : Type 0 where
   pub from-below : edgeAt P e .from < P .states
@@ -302,13 +303,6 @@ pub record AcceptedPoint (P : Plan) (n s : ℕ) (m : ℤ) : Type 0 where
   pub state : s < P .states
   pub level : onGrid P m ≡ true
 
-count-ok : (n : ℕ) → countOk n ≡ true → (1 ≤ n) × (n ≤ 4096)
-unfolding countOk
-count-ok n h =
-    let (a, b) = yes-if (eqb n 0) (leb n 4096) h in
-    let z : n ≡ 0 → ⊥ = eqb-false n 0 a in
-    (omega (arith, z), leb-true n 4096 b)
-
 pub built-search : (P : Plan) (n : ℕ) → searchNumber P n ≡ 0 → planNumber P ≡ 0
 unfolding searchNumber
 built-search P n h = or-zero (planNumber P) _ h .0
@@ -324,11 +318,11 @@ accepted P n h =
     let (b, r₁) = zero-else (P .sealed) _ 11 (λ e. omega arith) r in
     let (c, r₂) = zero-else (countOk n) _ 9 (λ e. omega arith) r₁ in
     let (d, r₃) = zero-if (late P n) 13 0 (λ e. omega arith) r₂ in
-    let k = count-ok n c in
+    let k = count-is n c in
     record {
       plan = checked P a;
       sealed = b;
-      some-readings = k .0;
+      some-readings = omega (arith, k .0);
       few-readings = k .1;
       closed = λ i l. ltb-false n (labelAt P i .q) (any-not (λ i. ltb n (labelAt P i .q)) (P .labelcount) i d l);
     }
@@ -341,8 +335,8 @@ accepted-point P n s m h =
     let (c, r₂) = zero-else (countOk n) _ 9 (λ e. omega arith) r₁ in
     let (d, r₃) = zero-else (ltb s (P .states)) _ 5 (λ e. omega arith) r₂ in
     let (e, r₄) = zero-else (onGrid P m) 0 4 (λ e. omega arith) r₃ in
-    let k = count-ok n c in
-    record { plan = checked P a; sealed = b; some-readings = k .0; few-readings = k .1; state = ltb-true s (P .states) d; level = e }
+    let k = count-is n c in
+    record { plan = checked P a; sealed = b; some-readings = omega (arith, k .0); few-readings = k .1; state = ltb-true s (P .states) d; level = e }
 
 -- ---- none of these numbers is 16
 

@@ -1,16 +1,13 @@
 -- The refusals of a search and of a cost at a point that come before they look at what they are lent: 0 where none applies. The quoted words
 -- are those of the scope paper (01), "Refused because of the state". Assumes nothing.
-use mathlib.Core.Bool.{Bool, false}
+use mathlib.Core.Bool.{Bool}
 use Prim.Native.Nat.{ℕ}
-use lib.Dec.{leb, ltb, eqb}
+use lib.Dec.{ltb}
 use lib.IntN.{ℤ}
 use Rattle.plan.specs.declared.Plan.{Plan}
 use Rattle.plan.specs.Build.{pick, anyBelow, orElse, planNumber}
+use Rattle.plan.specs.Counts.{countOk}
 use Rattle.model.specs.Model.{labelAt, onGrid}
-
--- not "no readings or more than 4,096" (9)
-unfoldable pub countOk : ℕ → Bool
-countOk n = pick (eqb n 0) false (leb n 4096)
 
 -- "13 a label's q above n"
 unfoldable pub late : Plan → ℕ → Bool

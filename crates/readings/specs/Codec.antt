@@ -6,6 +6,7 @@ use lib.ListN.{length, getD, drop}
 use lib.Dec.{leb, eqb}
 use lib.IntN.{ℤ}
 use Rattle.integers.specs.Pick.{pick}
+use Rattle.plan.specs.Counts.{countOk}
 use Rattle.integers.specs.Bytes.{word, signed16, bits16}
 
 -- the readings of a body
@@ -18,10 +19,6 @@ readingsOf (h ∷ (l ∷ b)) = signed16 (word h l) ∷ readingsOf b
 unfoldable pub bytesOf : List ℤ → List ℕ
 bytesOf [] = []
 bytesOf (z ∷ zs) = bits16 z / 256 ∷ (bits16 z % 256 ∷ bytesOf zs)
-
--- refusal 9 does not apply: 1 to 4,096 readings
-unfoldable pub countOk : ℕ → Bool
-countOk n = pick (eqb n 0) false (leb n 4096)
 
 -- decoding a body of len bytes into a list of room readings: 3, 9, 15; 0 where it is not refused
 unfoldable pub decodeNumber : ℕ → ℕ → ℕ

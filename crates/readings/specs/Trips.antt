@@ -14,7 +14,8 @@ use mir.Val.{SFits}
 use borrow.Author.Tests.{le-leb, leb-true, eqb-true, eqb-false, ne-eqb}
 use Rattle.integers.specs.Pick.{pick}
 use Rattle.integers.specs.Bytes.{word, signed16, bits16, word-high, word-low, word-back, signed-bits, bits-signed, bits-below}
-use Rattle.readings.specs.Codec.{readingsOf, bytesOf, countOk, decodeNumber, decoded, encodeNumber, encoded}
+use Rattle.readings.specs.Codec.{readingsOf, bytesOf, decodeNumber, decoded, encodeNumber, encoded}
+use Rattle.plan.specs.Counts.{countOk}
 
 -- every element is a byte; a signed number of 16 bits
 abbrev pub AllBytes : List ℕ → Type 0
@@ -68,19 +69,6 @@ encode-decode (suc k) (x ∷ (y ∷ b)) e f =
     let w : bits16 (signed16 (word x y)) ≡ word x y = bits-signed (word x y) (omega arith) in
     ap₂ (λ (p : ℕ) (t : List ℕ). p ∷ t) (ap (λ (n : ℕ). n / 256) w ∙ word-high x y l)
     (ap₂ (λ (p : ℕ) (t : List ℕ). p ∷ t) (ap (λ (n : ℕ). n % 256) w ∙ word-low x y l) (encode-decode k b (omega arith) (λ i. f (suc (suc i)))))
-
--- refusal 9, and what is left without it
-pub count-is : (n : ℕ) → countOk n ≡ true → (0 < n) × (n ≤ 4096)
-unfolding countOk
-count-is n e = go (eqb n 0) refl e
-  where
-    go : (b : Bool) → eqb n 0 ≡ b → pick b false (leb n 4096) ≡ true → (0 < n) × (n ≤ 4096)
-    go true q h = let z : _≡_ {A = ℕ} 0 1 = cc in absurd (omega arith)
-    go false q h = let k = eqb-false n 0 q in (omega (arith, k), leb-true n 4096 h)
-
-pub count-yes : (n : ℕ) → 0 < n → n ≤ 4096 → countOk n ≡ true
-unfolding countOk
-count-yes n h k = rw (ne-eqb n 0 (λ z. omega (arith, z)), le-leb n 4096 k)
 
 -- the tests that a number 0 has passed
 both : (a b : Bool) {k m : ℕ} → (k ≡ 0 → ⊥) → (m ≡ 0 → ⊥) → pick a (pick b 0 k) m ≡ 0 → (a ≡ true) × (b ≡ true)

@@ -1,7 +1,7 @@
 -- `files::put_readings` meets its contract. Assumes nothing.
 use native.Mathlib.Omega.{arith}
 use Rattle.files.proofs.Store.{readings-put}
-use Rattle.readings.specs.Trips.{count-is}
+use Rattle.plan.specs.Counts.{count-is}
 use borrow.Author.Needs.{needs}
 use Rattle.files.proofs.put_readings.Statement.{statement}
 use Rattle.files.proofs.put_readings.Tie as tie

@@ -1,7 +1,7 @@
 -- `files::write_number` meets its contract. Assumes nothing.
 use Rattle.files.proofs.Store.{plan-wrong, unsealed, wrong-count, no-room, writes}
 use Rattle.files.specs.Sizes.{counts-small}
-use Rattle.readings.specs.Trips.{count-is}
+use Rattle.plan.specs.Counts.{count-is}
 use borrow.Author.Tests.{not-true, not-false}
 use Prim.Native.Nat.{ℕ, _<_, _≤_}
 use mathlib.Core.Path.{sym, _∙_, subst}

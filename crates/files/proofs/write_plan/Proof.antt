@@ -4,7 +4,7 @@ use Rattle.files.specs.Sizes.{write-room, plan-length}
 use Rattle.files.specs.Writer.{planBytes, planLength}
 use Rattle.fields.specs.declared.Written.the-variants.{Bytes}
 use Rattle.fields.specs.Put.{write-refused, write-done, put-front}
-use Rattle.readings.specs.Trips.{count-is}
+use Rattle.plan.specs.Counts.{count-is}
 use lib.ListN.{length}
 use mathlib.Core.Path.{sym, _∙_, ap}
 use borrow.Author.Needs.{needs}
