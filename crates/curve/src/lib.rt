@@ -75,7 +75,20 @@ pub fn append(ws: &mut [u64], dst: usize, n: usize, end: u64, q: Quad) -> usize
     n + 1
 }
 
-// The better of p and q at the levels from x to y, p where they are equal.
+// The better of p and q at the level y, p where they are equal.
+fn least_at(ws: &mut [u64], dst: usize, n: usize, p: Quad, q: Quad, y: u64, base: u64) -> usize
+    requires { ⌜ (Sized p × Sized q) × (base + y < 262144) ⌝ }
+    requires { ⌜ dst + 4 * (n + 1) ≤ length (now ws) ⌝ }
+    ensures { λ r. ⌜ Appended (now (ws .entry)) (now (ws .exit)) dst n y (better (base + y) p q) r ⌝ }
+{
+    if quadratic::under(p, q, base + y) {
+        return append(ws, dst, n, y, p);
+    }
+    append(ws, dst, n, y, q)
+}
+
+// The better of p and q at the levels from x to y, p where they are equal. Many stretches have one level, and many end in one that is
+// left over: no crossing is looked for there.
 fn least_on(
     ws: &mut [u64],
     dst: usize,
@@ -92,7 +105,7 @@ fn least_on(
 {
     let mut a = x;
     let mut k = n;
-    while a <= y {
+    while a < y {
         if quadratic::under(p, q, base + a) {
             let s = quadratic::crossing(p, q, base + a, base + y) - base;
             k = append(ws, dst, k, s, p);
@@ -107,6 +120,9 @@ fn least_on(
             k = append(ws, dst, k, s, q);
             a = s + 1;
         }
+    }
+    if a == y {
+        return least_at(ws, dst, k, p, q, y, base);
     }
     k
 }
