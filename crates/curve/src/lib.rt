@@ -2,7 +2,7 @@
 //
 // A list over L levels starts at a word of the workspace. A piece is four words: the index of its last level, then a, z and c of the
 // quadratic in force up to there. Last levels rise, and the piece that ends at L - 1 is the last: no header, at most L pieces. "None" is
-// the constant 2^60. Equal neighbours are joined on writing; searches would be many times slower without.
+// the constant 2^60. Equal neighbours are joined where they can arise (`append`); searches would be many times slower without.
 //
 // Convention: `f` and `g` are lists that are read, `dst` is where a list is written, `levels` is L and `base` the place of level 0. A list
 // that is written has the 4 L words from dst on, and no other word changes (`Kept`). A list that is read shares no word with them
@@ -178,7 +178,7 @@ pub fn least_of_two(
     }
 }
 
-// dst: f with w times the square (u - v)² more at each level.
+// dst: f with w times the square (u - v)² more at each level. Neighbours of f that differ still do, so that none are compared.
 pub fn add_loss(ws: &mut [u64], f: usize, u: u64, w: u64, dst: usize, levels: u64)
     requires { ⌜ Lent (now ws) f dst (4 * levels) levels × (dst + 4 * levels ≤ length (now ws)) ⌝ }
     requires { ⌜ ((u < 262144) × (w < 256)) × (levels ≤ 262144) ⌝ }
@@ -186,14 +186,13 @@ pub fn add_loss(ws: &mut [u64], f: usize, u: u64, w: u64, dst: usize, levels: u6
     ensures { λ r. ⌜ Made (λ (j : ℕ). pushed w u (piece (now (ws .entry)) f levels j)) (now (ws .entry)) (now (ws .exit)) dst levels ⌝ }
 {
     let mut i: usize = 0;
-    let mut n: usize = 0;
     let mut x: u64 = 0;
     while x < levels {
         let at = f + 4 * i;
         let e = ws[at];
         let p = load(ws, at);
         let q = quadratic::add_square(p, u, w);
-        n = append(ws, dst, n, e, q);
+        store(ws, dst + 4 * i, e, q);
         i += 1;
         x = e + 1;
     }
@@ -260,7 +259,7 @@ fn start(ws: &[u64], f: usize, k: usize) -> u64
     if k == 0 { 0 } else { ws[f + 4 * (k - 1)] + 1 }
 }
 
-// dst: f from its last level to its first.
+// dst: f from its last level to its first. Neighbours of f that differ still do, so that none are compared.
 pub fn mirror(ws: &mut [u64], f: usize, dst: usize, levels: u64, base: u64)
     requires { ⌜ Lent (now ws) f dst (4 * levels) levels × (dst + 4 * levels ≤ length (now ws)) ⌝ }
     requires { ⌜ (131072 ≤ base) × (base + levels ≤ 262144) ⌝ }
@@ -275,7 +274,8 @@ pub fn mirror(ws: &mut [u64], f: usize, dst: usize, levels: u64, base: u64)
         let s = start(ws, f, k);
         let p = load(ws, f + 4 * k);
         let q = quadratic::mirror(p, 2 * base + (levels - 1));
-        n = append(ws, dst, n, levels - 1 - s, q);
+        store(ws, dst + 4 * n, levels - 1 - s, q);
+        n += 1;
         x = s;
     }
 }
