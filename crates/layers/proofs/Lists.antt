@@ -80,9 +80,11 @@ module _ (P : Plan) (zs : List ℤ) (t o free : ℕ) where
 module _ {P : Plan} {zs : List ℤ} {t cur next free : ℕ} {g : Shape} {ws : List ℕ} (a : StepReady P zs t cur next free g ws) where
   -- the layer that is read is as it was
   pub layer-kept : {Q : ℕ → ℕ → Type 0} {t′ : ℕ} {ws′ : List ℕ} → ((k s : ℕ) → Q k s → (k < counts) × (s < P .states)) → Lists Q P zs t′ next free ws ws′ → Layer P zs t ws′ cur
-  layer-kept {Q} {t′} {ws′} hq m = record { list = λ k s hk hs.
-      let b = list-within cur (P .states) (width P) k s hk hs in
-      kept-list (m .size) (λ i h h′. m .word i (λ k′ s′ q. elsewhere k′ s′ (hq k′ s′ q) i (omega arith) (omega arith)) (inl (omega (arith, a .below)))) (a .layer .list k s hk hs) }
+  layer-kept {Q} {t′} {ws′} hq m = record {
+    list = λ k s hk hs.
+        let b = list-within cur (P .states) (width P) k s hk hs in
+        kept-list (m .size) (λ i h h′. m .word i (λ k′ s′ q. elsewhere k′ s′ (hq k′ s′ q) i (omega arith) (omega arith)) (inl (omega (arith, a .below)))) (a .layer .list k s hk hs);
+  }
     where
       elsewhere : (k′ s′ : ℕ) → (k′ < counts) × (s′ < P .states) → (i : ℕ) → cur ≤ i → i < cur + layerWords P → Off (listAt next (P .states) (width P) k′ s′) (width P) i
       elsewhere k′ s′ h i p q =
@@ -91,16 +93,34 @@ module _ {P : Plan} {zs : List ℤ} {t cur next free : ℕ} {g : Shape} {ws : Li
 
   pub still-ready : {Q : ℕ → ℕ → Type 0} {t′ : ℕ} {ws′ : List ℕ} → ((k s : ℕ) → Q k s → (k < counts) × (s < P .states)) → Lists Q P zs t′ next free ws ws′ → StepReady P zs t cur next free g ws′
   still-ready hq m = record {
-    task = a .task; some = a .some; more = a .more; layer = layer-kept hq m; apart = a .apart; below = a .below; under = a .under;
-    room = omega (arith, a .room, m .size); place = a .place }
+    task = a .task;
+    some = a .some;
+    more = a .more;
+    layer = layer-kept hq m;
+    apart = a .apart;
+    below = a .below;
+    under = a .under;
+    room = omega (arith, a .room, m .size);
+    place = a .place;
+  }
 
   pub list-ready : {o : Option Label} {k s : ℕ} → o ≡ labelOn P t → k < counts → s < P .states → (dst : ℕ) → dst ≡ listAt next (P .states) (width P) k s → NextReady P zs o t cur dst free k s g ws
   list-ready {o} {k} {s} e hk hs dst d =
       let b = list-within next (P .states) (width P) k s hk hs in
       record {
-        task = a .task; on = e; some = a .some; more = a .more; layer = a .layer; count = hk; state = hs;
+        task = a .task;
+        on = e;
+        some = a .some;
+        more = a .more;
+        layer = a .layer;
+        count = hk;
+        state = hs;
         apart = ⊎-elim (λ q. inl (omega arith)) (λ q. inr (omega arith)) (a .apart);
-        below = a .below; under = omega (arith, a .under); room = a .room; place = a .place }
+        below = a .below;
+        under = omega (arith, a .under);
+        room = a .room;
+        place = a .place;
+      }
 
 module _ {P : Plan} {zs : List ℤ} (t o free : ℕ) (under : o + layerWords P ≤ free) {ws ws′ ws″ : List ℕ} where
   -- one list more of a count

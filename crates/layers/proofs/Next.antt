@@ -193,9 +193,9 @@ module _ {P : Plan} {zs : List ℤ} {o : Option Label} {t cur dst free k s : ℕ
         value-is j =
             let L = a .task .shape .levels in
             let x : leastOffered o t (P .edges) (P .edgecount) k s (g .levels) (tableAt P zs t) j ≡ minBelow (P .edgecount) (byEdge P t (tableAt P zs t) k s j) =
-                min-ext (P .edgecount) _ _ (λ e h. rw (L, a .on) (offered-by P t (tableAt P zs t) k s j e)) in
+            min-ext (P .edgecount) _ _ (λ e h. rw (L, a .on) (offered-by P t (tableAt P zs t) k s j e)) in
             let y : min none (leastOffered o t (P .edges) (P .edgecount) k s (g .levels) (tableAt P zs t) j) ≡ minBelow (P .edgecount) (byEdge P t (tableAt P zs t) k s j) =
-                omega (arith, x, min-none (P .edgecount) (byEdge P t (tableAt P zs t) k s j)) in
+            omega (arith, x, min-none (P .edgecount) (byEdge P t (tableAt P zs t) k s j)) in
             let z : 1 * (far u (g .base + j) * far u (g .base + j)) ≡ lossAt zs t (P .lo +ℤ pos j) = omega (arith, loss-place zs t (P .lo) u (g .base) at (base-place (a .task)) j) in
             rw (y, z) (table-next P zs t k s j (a .some))
 
@@ -252,9 +252,10 @@ module _ {P : Plan} {zs : List ℤ} {dst free k s : ℕ} {g : Shape} {ws : List 
 
   pub first-ready : {u : ℕ} → (131072 ≤ u) × (u < 196608)
       → ((Apart free dst (4 * g .levels) × (dst + 4 * g .levels ≤ length w1)) × ((((131072 ≤ u) × (u < 196608)) × ((1 < 256) × (g .base + g .levels ≤ 196608))) × (Limits 1048576 18014398509481984 (g .base) (g .levels) × Sound 18014398509481984 (g .base) (g .levels) w1 free)))
-  first-ready h =
-      ((inr (omega (arith, a .under, a .task .shape .levels)), omega (arith, a .under, a .room, a .task .shape .levels, m1 .kept .size)),
-      ((h, (omega arith, omega (arith, a .task .shape .base, a .task .shape .levels, a .task .high))), (limits (a .task) 1048576 18014398509481984 (omega arith) (omega arith), curve-costs (curve-wider 1048576 18014398509481984 (omega arith) (omega arith) acc-first))))
+  first-ready h = (
+    (inr (omega (arith, a .under, a .task .shape .levels)), omega (arith, a .under, a .room, a .task .shape .levels, m1 .kept .size)),
+    ((h, (omega arith, omega (arith, a .task .shape .base, a .task .shape .levels, a .task .high))), (limits (a .task) 1048576 18014398509481984 (omega arith) (omega arith), curve-costs (curve-wider 1048576 18014398509481984 (omega arith) (omega arith) acc-first))),
+  )
 
   module _ (u : ℕ) (at : pos u ≡ getD zs 0 (pos 0) +ℤ pos 163840) {w2 : List ℕ} (m2 : WithLoss 1 u (g .base) (g .levels) w1 w2 free dst) where
     value-first : (j : ℕ) → raise c (1 * (far u (g .base + j) * far u (g .base + j))) ≡ tableAt P zs 1 k s j

@@ -180,11 +180,24 @@ fn first_cost(plan: Plan, k: usize, s: usize) -> u64
     if k != 0 {
         return quadratic::NONE;
     }
-    if in_set(plan.start, s) { 0 } else { quadratic::NONE }
+    if in_set(plan.start, s) {
+        0
+    } else {
+        quadratic::NONE
+    }
 }
 
 // List (k, s) of the layer after the first reading, at dst.
-fn first_list(ws: &mut [u64], plan: Plan, readings: &[i16], dst: usize, free: usize, k: usize, s: usize, g: Shape)
+fn first_list(
+    ws: &mut [u64],
+    plan: Plan,
+    readings: &[i16],
+    dst: usize,
+    free: usize,
+    k: usize,
+    s: usize,
+    g: Shape,
+)
     requires { ⌜ FirstReady plan (now readings) dst free k s g (now ws) ⌝ }
     ensures { λ r. ⌜ NextList plan (now (readings .entry)) 0 dst free k s (now (ws .entry)) (now (ws .exit)) ⌝ }
 {
@@ -197,7 +210,15 @@ fn first_list(ws: &mut [u64], plan: Plan, readings: &[i16], dst: usize, free: us
 }
 
 // The lists of count k in the layer after the first reading, at o.
-fn first_count(ws: &mut [u64], plan: Plan, readings: &[i16], o: usize, free: usize, k: usize, g: Shape)
+fn first_count(
+    ws: &mut [u64],
+    plan: Plan,
+    readings: &[i16],
+    o: usize,
+    free: usize,
+    k: usize,
+    g: Shape,
+)
     requires { ⌜ StartReady plan (now readings) o free g (now ws) × (k < 2) ⌝ }
     ensures { λ r. ⌜ Lists (OfCount k (plan .states)) plan (now (readings .entry)) 1 o free (now (ws .entry)) (now (ws .exit)) ⌝ }
 {
