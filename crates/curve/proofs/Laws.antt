@@ -101,6 +101,14 @@ better-second p q base a y r t j u v =
     let o : Over p q (base + j) = omega (arith, t .under (base + j) (omega arith) (omega (arith, t .low))) in
     sym (ap (λ (b : Bool). pick b p q) (lt-leb _ _ o))
 
+-- at one level, by the test alone
+module _ {ws ws′ : List ℕ} {dst n end r : ℕ} (p q : Quad) (v : ℕ) where
+  pub appended-first : leb (up p v + down q v) (up q v + down p v) ≡ true → Appended ws ws′ dst n end p r → Appended ws ws′ dst n end (better v p q) r
+  appended-first h a = subst (λ (t : Quad). Appended ws ws′ dst n end t r) (sym (ap (λ (b : Bool). pick b p q) h)) a
+
+  pub appended-second : leb (up p v + down q v) (up q v + down p v) ≡ false → Appended ws ws′ dst n end q r → Appended ws ws′ dst n end (better v p q) r
+  appended-second h a = subst (λ (t : Quad). Appended ws ws′ dst n end t r) (sym (ap (λ (b : Bool). pick b p q) h)) a
+
 small-pick : (b : Bool) (k : ℕ) (q : Quad) → Sized (pick b q (record { a = q .a; z = q .z; c = q .c + k })) → Small q
 small-pick true k q s = small s
 small-pick false k q s = record { count = s .count; sum = s .sum; rest = omega (arith, s .rest) }

@@ -2,7 +2,7 @@
 //
 // A list over L levels starts at a word of the workspace. A piece is four words: the index of its last level, then a, z and c of the
 // quadratic in force up to there. Last levels rise, and the piece that ends at L - 1 is the last: no header, at most L pieces. "None" is
-// the constant 2^60. Equal neighbours are joined on writing; searches would be many times slower without.
+// the constant 2^60. Equal neighbours are joined where they can arise (`append`); searches would be many times slower without.
 //
 // Convention: `f` and `g` are lists that are read, `dst` is where a list is written, `levels` is L and `base` the place of level 0. A list
 // that is written has the 4 L words from dst on, and no other word changes (`Kept`). A list that is read shares no word with them
@@ -75,7 +75,20 @@ pub fn append(ws: &mut [u64], dst: usize, n: usize, end: u64, q: Quad) -> usize
     n + 1
 }
 
-// The better of p and q at the levels from x to y, p where they are equal.
+// The better of p and q at the level y, p where they are equal.
+fn least_at(ws: &mut [u64], dst: usize, n: usize, p: Quad, q: Quad, y: u64, base: u64) -> usize
+    requires { ⌜ (Sized p × Sized q) × (base + y < 262144) ⌝ }
+    requires { ⌜ dst + 4 * (n + 1) ≤ length (now ws) ⌝ }
+    ensures { λ r. ⌜ Appended (now (ws .entry)) (now (ws .exit)) dst n y (better (base + y) p q) r ⌝ }
+{
+    if quadratic::under(p, q, base + y) {
+        return append(ws, dst, n, y, p);
+    }
+    append(ws, dst, n, y, q)
+}
+
+// The better of p and q at the levels from x to y, p where they are equal. Many stretches have one level, and many end in one that is
+// left over: no crossing is looked for there.
 fn least_on(
     ws: &mut [u64],
     dst: usize,
@@ -92,7 +105,7 @@ fn least_on(
 {
     let mut a = x;
     let mut k = n;
-    while a <= y {
+    while a < y {
         if quadratic::under(p, q, base + a) {
             let s = quadratic::crossing(p, q, base + a, base + y) - base;
             k = append(ws, dst, k, s, p);
@@ -107,6 +120,9 @@ fn least_on(
             k = append(ws, dst, k, s, q);
             a = s + 1;
         }
+    }
+    if a == y {
+        return least_at(ws, dst, k, p, q, y, base);
     }
     k
 }
@@ -162,7 +178,7 @@ pub fn least_of_two(
     }
 }
 
-// dst: f with w times the square (u - v)² more at each level.
+// dst: f with w times the square (u - v)² more at each level. Neighbours of f that differ still do, so that none are compared.
 pub fn add_loss(ws: &mut [u64], f: usize, u: u64, w: u64, dst: usize, levels: u64)
     requires { ⌜ Lent (now ws) f dst (4 * levels) levels × (dst + 4 * levels ≤ length (now ws)) ⌝ }
     requires { ⌜ ((u < 262144) × (w < 256)) × (levels ≤ 262144) ⌝ }
@@ -170,14 +186,13 @@ pub fn add_loss(ws: &mut [u64], f: usize, u: u64, w: u64, dst: usize, levels: u6
     ensures { λ r. ⌜ Made (λ (j : ℕ). pushed w u (piece (now (ws .entry)) f levels j)) (now (ws .entry)) (now (ws .exit)) dst levels ⌝ }
 {
     let mut i: usize = 0;
-    let mut n: usize = 0;
     let mut x: u64 = 0;
     while x < levels {
         let at = f + 4 * i;
         let e = ws[at];
         let p = load(ws, at);
         let q = quadratic::add_square(p, u, w);
-        n = append(ws, dst, n, e, q);
+        store(ws, dst + 4 * i, e, q);
         i += 1;
         x = e + 1;
     }
@@ -244,7 +259,7 @@ fn start(ws: &[u64], f: usize, k: usize) -> u64
     if k == 0 { 0 } else { ws[f + 4 * (k - 1)] + 1 }
 }
 
-// dst: f from its last level to its first.
+// dst: f from its last level to its first. Neighbours of f that differ still do, so that none are compared.
 pub fn mirror(ws: &mut [u64], f: usize, dst: usize, levels: u64, base: u64)
     requires { ⌜ Lent (now ws) f dst (4 * levels) levels × (dst + 4 * levels ≤ length (now ws)) ⌝ }
     requires { ⌜ (131072 ≤ base) × (base + levels ≤ 262144) ⌝ }
@@ -259,7 +274,8 @@ pub fn mirror(ws: &mut [u64], f: usize, dst: usize, levels: u64, base: u64)
         let s = start(ws, f, k);
         let p = load(ws, f + 4 * k);
         let q = quadratic::mirror(p, 2 * base + (levels - 1));
-        n = append(ws, dst, n, levels - 1 - s, q);
+        store(ws, dst + 4 * n, levels - 1 - s, q);
+        n += 1;
         x = s;
     }
 }

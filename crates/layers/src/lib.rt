@@ -5,11 +5,12 @@ use layer::Temps;
 use plan::Edge;
 use plan::Plan;
 ghost use mathlib.Core.Path.{_≡_};
+ghost use mathlib.Core.Bool.{true};
 ghost use Prim.Native.Nat.{ℕ, suc, _+_, _*_, _≤_, _<_};
 ghost use lib.ListN.{length};
 ghost use Rattle.model.specs.Model.{inSet};
 ghost use Rattle.model.specs.Labels.{labelOn};
-ghost use Rattle.labels.specs.Boundary.{labelOf};
+ghost use Rattle.labels.specs.Boundary.{labelOf, leadsFrom};
 ghost use Rattle.layers.specs.Layer.{Shape-small, listAt};
 ghost use Rattle.layers.specs.Next.{NextReady, NextList, StepReady, Lists, OfCount, Stepped, firstCost, FirstReady, StartReady};
 ghost use Rattle.layers.specs.Step.{MayTake, TookOne, EdgesReady, TookEdges};
@@ -38,7 +39,7 @@ pub fn in_set(mask: u8, s: usize) -> bool
     (mask as u16) / bit % 2 == 1
 }
 
-// The least so far of list (k, s), with the edge taken in where it leads there at boundary t from the layer at cur.
+// The least so far of list (k, s), with an edge taken in that leads there at boundary t from the layer at cur.
 fn take_one(
     ws: &mut [u64],
     temps: Temps,
@@ -51,11 +52,9 @@ fn take_one(
     g: Shape,
 ) -> Temps
     requires { ⌜ MayTake (labelOf on) t e k s cur g temps (now ws) ⌝ }
+    requires { ⌜ leadsFrom (labelOf on) t e k s ≡ true ⌝ }
     ensures { λ r. ⌜ TookOne (labelOf on) t e k s cur g (now (ws .entry)) (now (ws .exit)) temps r ⌝ }
 {
-    if !labels::leads(on, t, e, k, s) {
-        return temps;
-    }
     let kind = e.kind;
     let before = labels::count_before(on, t, kind, k);
     let f = list_at(cur, g, before, e.from as usize);
@@ -63,7 +62,8 @@ fn take_one(
     layer::take_edge(ws, temps, f, kind, pen, g.levels, g.base)
 }
 
-// The least over the first n edges, taken one by one into the least so far.
+// The least over the first n edges, taken one by one into the least so far. Most edges do not lead to (k, s): they are passed over here,
+// so that the places of the temporary lists stay where they are and do not go through a call for each.
 fn take_edges(
     ws: &mut [u64],
     first: Temps,
@@ -83,8 +83,10 @@ fn take_edges(
     let mut i = 0;
     while i < n {
         let e = edges[i];
-        temps = take_one(ws, temps, e, on, t, cur, k, s, g);
         i += 1;
+        if labels::leads(on, t, e, k, s) {
+            temps = take_one(ws, temps, e, on, t, cur, k, s, g);
+        }
     }
     temps
 }

@@ -11,6 +11,13 @@ use Rattle.quadratic.specs.Level.{Placed}
 use Rattle.quadratic.specs.declared.Quad.{Quad}
 use Rattle.quadratic.specs.Quad.{Small, Fine, Lowest, Cut, Turns, Stays, Halved, up, down, AtMost, Less, Under, Over}
 
+-- ---- a quotient below x + 1 or at least y: the end of [x, y]
+pub cut-low : (p q d x y : ℕ) → x ≤ y → p < d * (x + 1) + q → Cut p q d x y x
+cut-low p q d x y h g = record { low = omega arith; high = h; under = λ m a b. omega arith; over = λ m a b. omega (arith, mul-le-mul-left d a) }
+
+pub cut-high : (p q d x y : ℕ) → x ≤ y → d * y + q ≤ p → Cut p q d x y y
+cut-high p q d x y h g = record { low = h; high = omega arith; under = λ m a b. omega (arith, mul-le-mul-left d b); over = λ m a b. omega arith }
+
 -- ---- a quotient rounded down on signed levels, at its place
 pub cut-of : (p q d x y r : ℕ) (m : ℤ) → (m *ℤ pos d) ≤ℤ (pos p -ℤ pos (q + d * 163840)) → (pos p -ℤ pos (q + d * 163840)) <ℤ ((m +ℤ pos 1) *ℤ pos d) → Placed m x y r → Cut p q d x y r
 cut-of p q d x y r m f g t = record {

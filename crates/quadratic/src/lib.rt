@@ -76,12 +76,19 @@ fn place(m: i64, x: u64, y: u64) -> u64
     }
 }
 
-// (p - q) / d is computed on signed levels and rounded down: its place, or the end of [x, y] that is nearest to it.
+// (p - q) / d is computed on signed levels and rounded down: its place, or the end of [x, y] that is nearest to it. The division is the
+// slowest instruction here and most quotients lie outside [x, y], so that two products find those first.
 pub fn cut(p: u64, q: u64, d: u64, x: u64, y: u64) -> u64
     requires { ⌜ ((p < 2305843009213693952) × (q < 2305843009213693952)) × ((0 < d) × (d ≤ 2199023255552)) ⌝ }
     requires { ⌜ (x ≤ y) × (y < 262144) ⌝ }
     ensures { λ r. ⌜ Cut p q d x y r ⌝ }
 {
+    if p < d * (x + 1) + q {
+        return x;
+    }
+    if d * y + q <= p {
+        return y;
+    }
     let n = less(p, q + d * 163840);
     let m = integers::floor_div(n, less(d, 0));
     place(m, x, y)

@@ -1,5 +1,5 @@
--- `curve::least_on`: the one that is under stays so up to the crossing. Assumes nothing.
-use mathlib.Core.Path.{_≡_, sym, _∙_}
+-- `curve::least_on`: the one that is under stays so up to the crossing; one level that is left is by itself. Assumes nothing.
+use mathlib.Core.Path.{_≡_, sym, ap, _∙_}
 use Prim.Native.Nat.{ℕ, _+_, _-_, _≤_}
 use native.Mathlib.Omega.{arith}
 use borrow.Author.Tests.{leb-true, leb-false}
@@ -76,11 +76,20 @@ loop-less-2 c = omega arith
 loop-again-2 : tie.Need-loop-again-2 Inv-loop μ-loop
 loop-again-2 c = let s = c .before .before .before .before .before .before .before .before .before .before .before in let i = c .before .before .before .before .before .before .before .before .before .loop .inv in (omega arith, emits-append (s .pre .1 .0 .0) (i .0 .0) (omega arith) (i .1) (c .before .before .append2 .ensures) (better-second _ _ _ _ _ _ (c .before .before .before .before .crossing2 .ensures)))
 
+least-at-requires : tie.Need-least-at-requires Inv-loop μ-loop
+least-at-requires c κs = let s = c .before .before .before .before .before in let i = c .before .before .before .loop .inv in (s .pre .0, omega (arith, i .1 .count (s .pre .1 .0 .0), i .1 .kept .size))
+
 same-length : tie.Need-same-length Inv-loop μ-loop
-same-length c = c .before .loop .inv .1 .kept .size
+same-length c = c .before .before .least-at .ensures .kept .size ∙ c .before .before .before .before .before .before .loop .inv .1 .kept .size
 
 returns : tie.Need-returns Inv-loop μ-loop
-returns c = let s = c .before .before .before in let i = c .before .loop .inv in let e : c .before .loop .a ≡ s .args .y + 1 = omega arith in rw e at (i .1)
+returns c = let s = c .before .before .before .before .before .before .before .before in let i = c .before .before .before .before .before .before .loop .inv in emits-append (s .pre .1 .0 .0) (i .0 .0) (omega arith) (i .1) (c .before .before .least-at .ensures) (λ j u v. let e : s .args .y ≡ j = omega arith in ap (λ (t : ℕ). better (s .args .base + t) (s .args .p) (s .args .q)) e)
+
+same-length-2 : tie.Need-same-length-2 Inv-loop μ-loop
+same-length-2 c = c .before .before .loop .inv .1 .kept .size
+
+returns-2 : tie.Need-returns-2 Inv-loop μ-loop
+returns-2 c = let s = c .before .before .before .before in let i = c .before .before .loop .inv in let e : c .before .before .loop .a ≡ s .args .y + 1 = omega arith in rw e at (i .1)
 
 pub least-on-spec : {M : Type 1} → statement M
 least-on-spec =
@@ -108,5 +117,8 @@ least-on-spec =
     add-a-2
     loop-less-2
     loop-again-2
+    least-at-requires
     same-length
-    returns)
+    returns
+    same-length-2
+    returns-2)

@@ -2,10 +2,11 @@
 use mathlib.Core.Path.{_≡_, sym, _∙_, ap, subst}
 use Prim.Native.Nat.{_+_, _-_, _*_, _≤_, _<_}
 use native.Mathlib.Omega.{arith}
+use lib.ListN.{length}
 use Rattle.quadratic.specs.Quad.{mirrored}
 use Rattle.curve.specs.Lists.{emits-append, made}
 use Rattle.curve.specs.Pieces.{Emits, Built, Is, piece, Turnable, mirrorOf, startOf}
-use Rattle.curve.proofs.Laws.{small, Back, back, emits-zero}
+use Rattle.curve.proofs.Laws.{small, Back, back, emits-zero, appended-new}
 use Rattle.curve.proofs.mirror.Statement.{statement}
 use Rattle.curve.proofs.mirror.Tie as tie
 
@@ -57,14 +58,27 @@ mirror-requires c κs = let t = c .before .before .before .before in let s = c .
     let q : Turnable (2 * s .args .base + (s .args .levels - 1)) (c .load .result) = subst (Turnable (2 * s .args .base + (s .args .levels - 1))) (sf t .is (x - 1) (omega (arith, sf t .low)) (omega (arith, t .loop-test)) ∙ sym (c .load .ensures)) (s .pre .1 .1 (x - 1) (omega (arith, ss (c .before .before) .1))) in
     ((small (q .sized), omega (arith, s .pre .1 .0)), (q .sum, q .rest))
 
-sub-append : tie.Need-sub-append Inv-loop μ-loop
-sub-append c = omega (arith, ss (c .before .before .before .before) .1)
+mul-store : tie.Need-mul-store Inv-loop μ-loop
+mul-store c = let y = ss (c .before .before .before .before) .1 in let i = c .before .before .before .before .before .before .before .loop .inv .1 in omega (arith, y, i .count (omega arith), c .before .before .before .before .before .before .before .before .before .before .before .pre .1 .0)
 
-sub-append-2 : tie.Need-sub-append-2 Inv-loop μ-loop
-sub-append-2 c = omega (arith, ss (c .before .before .before .before) .1)
+-- the piece has room
+room : (c : tie.After-store-arg Inv-loop μ-loop) → c .before .before .before .before .before .before .before .before .before .before .before .args .dst + 4 * c .before .before .before .before .before .before .before .loop .n + 4 ≤ length (c .before .before .before .before .before .before .before .loop .ws)
+room c = let y = ss (c .before .before .before .before) .1 in let i = c .before .before .before .before .before .before .before .loop .inv .1 in omega (arith, y, i .count (omega arith), i .kept .size, c .before .before .before .before .before .before .before .before .before .before .before .pre .0)
 
-append-requires : tie.Need-append-requires Inv-loop μ-loop
-append-requires c κs = let y = ss (c .before .before .before .before) .1 in let i = c .before .before .before .before .before .before .before .loop .inv .1 in omega (arith, y, i .count (omega arith), i .kept .size, c .before .before .before .before .before .before .before .before .before .before .before .pre .0)
+add-store : tie.Need-add-store Inv-loop μ-loop
+add-store c = omega (arith, room c)
+
+sub-store : tie.Need-sub-store Inv-loop μ-loop
+sub-store c = omega (arith, ss (c .before .before .before .before) .1)
+
+sub-store-2 : tie.Need-sub-store-2 Inv-loop μ-loop
+sub-store-2 c = omega (arith, ss (c .before .before .before .before) .1)
+
+store-requires : tie.Need-store-requires Inv-loop μ-loop
+store-requires c κs = room c
+
+add-n : tie.Need-add-n Inv-loop μ-loop
+add-n c = let y = ss (c .before .before .before .before .before .before .before) .1 in let i = c .before .before .before .before .before .before .before .before .before .before .loop .inv .1 in omega (arith, y, i .count (omega arith), c .before .before .before .before .before .before .before .before .before .before .before .before .before .before .pre .1 .0)
 
 loop-less : tie.Need-loop-less Inv-loop μ-loop
 loop-less c = omega (arith, ss (c .before .before .before .before .before .before .before) .1)
@@ -73,7 +87,7 @@ loop-again : tie.Need-loop-again Inv-loop μ-loop
 loop-again c = let t = c .before .before .before .before .before .before .before .before .before in let y = ss (c .before .before .before .before .before .before .before) in let s = c .before .before .before .before .before .before .before .before .before .before .before .before .before .before in let z = c .before .before .before .before .before .before .before .start .result in
     let e : s .args .levels - 1 - z + 1 ≡ s .args .levels - z = omega (arith, y .1) in (
       (omega (arith, y .1), rw (y .0) (sf t .less)),
-      rw e at (emits-append (omega arith) (omega arith) (omega (arith, y .1)) (c .before .before .before .before .before .before .before .before .before .before .loop .inv .1) (c .before .before .append .ensures)
+      rw e at (emits-append (omega arith) (omega arith) (omega (arith, y .1)) (c .before .before .before .before .before .before .before .before .before .before .loop .inv .1) (appended-new _ _ _ _ _ _ (c .before .before .store .ensures))
           (λ j p q. c .before .before .before .before .mirror .ensures ∙ ap (mirrored (2 * s .args .base + (s .args .levels - 1))) (c .before .before .before .before .before .load .ensures ∙ sym (sf t .is (s .args .levels - 1 - j) (omega (arith, y)) (omega (arith, y .1)))))),
     )
 
@@ -100,9 +114,12 @@ mirror-spec =
     sub-mirror
     add-mirror
     mirror-requires
-    sub-append
-    sub-append-2
-    append-requires
+    mul-store
+    add-store
+    sub-store
+    sub-store-2
+    store-requires
+    add-n
     loop-less
     loop-again
     same-length
