@@ -1,0 +1,85 @@
+//! What is measured.
+use crate::graphs::*;
+use crate::model::Plan;
+
+pub struct Case {
+    pub name: String,
+    pub plan: Plan,
+    pub readings: Vec<i16>,
+}
+
+/// Readings of the longest record.
+pub const LONGEST: usize = 4_096;
+
+fn traced(name: &str, plan: Plan, n: usize) -> Case {
+    let readings = trace(n, plan.levels() as i64);
+    Case {
+        name: format!("{name}, L = {}", plan.levels()),
+        plan,
+        readings,
+    }
+}
+
+/// A class that suits the noise on this grid.
+fn class_for(levels: i64) -> usize {
+    match levels {
+        0..=127 => 5,
+        128..=511 => 8,
+        _ => 12,
+    }
+}
+
+/// The usual graphs on motor current.
+pub fn usual() -> Vec<Case> {
+    let mut cases = vec![];
+    for levels in [80, 256, 1_024] {
+        let (class, g) = (class_for(levels), levels / 16);
+        let mut add = |name: &str, plan: Plan| cases.push(traced(name, plan, LONGEST));
+        add("any", any(levels, class));
+        add("any, class 2", any(levels, 2));
+        add("any, 16 labels", with_labels(any(levels, class), LONGEST));
+        add("up-down", up_down(levels, class));
+        add("up-down, class 0", up_down(levels, 0));
+        add("belt, 3 states", belt(levels, class, g));
+        add("ring, 4 states", ring(levels, 4, class, g));
+        add("ring, 8 states", ring(levels, 8, class, g));
+        add("abs, 8 states, 32 edges", full_abs(levels, g));
+    }
+    cases
+}
+
+/// Graphs and records that make many pieces.
+pub fn worst() -> Vec<Case> {
+    let levels = 1_024;
+    let up = |name: &str, plan: Plan| Case {
+        name: name.into(),
+        plan,
+        readings: ramp(LONGEST, levels),
+    };
+    vec![
+        up("monotone, ramp, L = 1024", monotone(levels)),
+        up("32 edges up, gap 1, ramp, L = 1024", full_up(levels, 1)),
+        traced("32 edges up, gap 64, trace", full_up(levels, 64), LONGEST),
+    ]
+}
+
+/// One of n, L and S grows, the others stay.
+pub fn growing() -> Vec<Case> {
+    let mut cases = vec![];
+    for n in [512, 1_024, 2_048, 4_096] {
+        let mut case = traced("belt", belt(256, 8, 16), n);
+        case.name = format!("n = {n} (belt, L = 256)");
+        cases.push(case);
+    }
+    for levels in [64, 128, 256, 512, 1_024] {
+        let mut case = traced("belt", belt(levels, class_for(levels), levels / 16), LONGEST);
+        case.name = format!("L = {levels} (belt, n = 4096)");
+        cases.push(case);
+    }
+    for states in [2, 4, 6, 8] {
+        let mut case = traced("ring", ring(256, states, 8, 16), LONGEST);
+        case.name = format!("S = {states} (ring, L = 256, n = 4096)");
+        cases.push(case);
+    }
+    cases
+}

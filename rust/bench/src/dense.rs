@@ -1,0 +1,285 @@
+//! The dense programme that one would write instead: every level, the whole table in memory, plain loops that the compiler can vectorise.
+use crate::model::*;
+use crate::piece::NONE;
+
+struct Dense<'a> {
+    plan: &'a Plan,
+    levels: usize,
+    /// Counts of changes that are told apart: one without labels, else two.
+    counts: usize,
+    prefix: Vec<i64>,
+    suffix: Vec<i64>,
+    low: Vec<i64>,
+    need_prefix: Vec<bool>,
+    need_suffix: Vec<bool>,
+    need_low: Vec<bool>,
+}
+
+impl<'a> Dense<'a> {
+    fn new(plan: &'a Plan) -> Dense<'a> {
+        let levels = plan.levels();
+        let counts = if plan.labels.is_empty() { 1 } else { 2 };
+        let need =
+            |test: fn(Kind) -> bool| -> Vec<bool> { (0..plan.states).map(|s| plan.edges.iter().any(|e| e.from == s && test(e.kind))).collect() };
+        Dense {
+            plan,
+            levels,
+            counts,
+            prefix: vec![0; counts * plan.states * levels],
+            suffix: vec![0; counts * plan.states * levels],
+            low: vec![0; counts * plan.states],
+            need_prefix: need(|k| matches!(k, Kind::Up(_) | Kind::Abs(_))),
+            need_suffix: need(|k| matches!(k, Kind::Down(_) | Kind::Abs(_))),
+            need_low: need(|k| k == Kind::Any),
+        }
+    }
+
+    fn row(&self) -> usize {
+        self.counts * self.plan.states * self.levels
+    }
+
+    fn first(&self, row: &mut [i64], x: i64) {
+        row.fill(NONE);
+        for s in 0..self.plan.states {
+            if self.plan.start >> s & 1 == 1 {
+                let f = &mut row[s * self.levels..(s + 1) * self.levels];
+                f.fill(0);
+                add_loss(f, x, self.plan.lo);
+            }
+        }
+    }
+
+    /// Running minima and least values of the row before, as far as some edge asks for them.
+    fn prepare(&mut self, mode: Mode, cur: &[i64]) {
+        let used = if mode == Mode::Free { 1 } else { self.counts };
+        for j in 0..used * self.plan.states {
+            let s = j % self.plan.states;
+            let range = j * self.levels..(j + 1) * self.levels;
+            let f = &cur[range.clone()];
+            if self.need_prefix[s] {
+                prefix(f, &mut self.prefix[range.clone()])
+            }
+            if self.need_suffix[s] {
+                suffix(f, &mut self.suffix[range])
+            }
+            if self.need_low[s] {
+                self.low[j] = f.iter().copied().fold(NONE, i64::min)
+            }
+        }
+    }
+
+    fn step(&mut self, boundary: usize, cur: &[i64], next: &mut [i64], x: i64) {
+        let (levels, states) = (self.levels, self.plan.states);
+        let mode = mode_at(self.plan, boundary);
+        self.prepare(mode, cur);
+        for j in 0..self.counts * states {
+            let (k, s) = (j / states, j % states);
+            let out = &mut next[j * levels..(j + 1) * levels];
+            out.fill(NONE);
+            for e in self.plan.edges.iter().filter(|e| e.to == s) {
+                if let Some(before) = count_before(mode, k, e.kind) {
+                    self.lower_by(out, cur, e, before * states + e.from);
+                }
+            }
+            add_loss(out, x, self.plan.lo);
+        }
+    }
+
+    /// The row so far, lowered where the edge from list j offers less.
+    fn lower_by(&self, out: &mut [i64], cur: &[i64], e: &Edge, j: usize) {
+        let range = j * self.levels..(j + 1) * self.levels;
+        let penalty = e.penalty();
+        match e.kind {
+            Kind::Stay => lower(out, &cur[range], penalty),
+            Kind::Any => lower_constant(out, self.low[j] + penalty),
+            Kind::Up(g) => lower_up(out, &self.prefix[range], g as usize, penalty),
+            Kind::Down(g) => lower_down(out, &self.suffix[range], g as usize, penalty),
+            Kind::Abs(g) => {
+                lower_up(out, &self.prefix[range.clone()], g as usize, penalty);
+                lower_down(out, &self.suffix[range], g as usize, penalty);
+            }
+        }
+    }
+}
+
+fn prefix(f: &[i64], out: &mut [i64]) {
+    let mut least = NONE;
+    for (o, v) in out.iter_mut().zip(f) {
+        least = least.min(*v);
+        *o = least;
+    }
+}
+
+fn suffix(f: &[i64], out: &mut [i64]) {
+    let mut least = NONE;
+    for (o, v) in out.iter_mut().zip(f).rev() {
+        least = least.min(*v);
+        *o = least;
+    }
+}
+
+fn lower(out: &mut [i64], f: &[i64], penalty: i64) {
+    for (o, v) in out.iter_mut().zip(f) {
+        *o = (*o).min(*v + penalty);
+    }
+}
+
+fn lower_constant(out: &mut [i64], c: i64) {
+    for o in out.iter_mut() {
+        *o = (*o).min(c);
+    }
+}
+
+fn lower_up(out: &mut [i64], prefix: &[i64], g: usize, penalty: i64) {
+    if g < out.len() {
+        let n = out.len() - g;
+        lower(&mut out[g..], &prefix[..n], penalty);
+    }
+}
+
+fn lower_down(out: &mut [i64], suffix: &[i64], g: usize, penalty: i64) {
+    if g < out.len() {
+        let n = out.len() - g;
+        lower(&mut out[..n], &suffix[g..], penalty);
+    }
+}
+
+/// Values from NONE up stay none: they are cut back to it.
+fn add_loss(f: &mut [i64], x: i64, lo: i64) {
+    for (i, o) in f.iter_mut().enumerate() {
+        let d = (x - lo - i as i64) as i32 as i64; // it fits, and so the product vectorises
+        *o = (*o + d * d).min(NONE);
+    }
+}
+
+/// The least cost only, with two rows.
+pub fn cost(plan: &Plan, z: &[i16]) -> i64 {
+    let mut d = Dense::new(plan);
+    let (mut cur, mut next) = (vec![0; d.row()], vec![0; d.row()]);
+    d.first(&mut cur, z[0] as i64);
+    for (i, x) in z.iter().enumerate().skip(1) {
+        d.step(i, &cur, &mut next, *x as i64);
+        std::mem::swap(&mut cur, &mut next);
+    }
+    best_end(plan, &cur).value
+}
+
+/// The whole search with the whole table.
+pub fn search(plan: &Plan, z: &[i16]) -> Option<Answer> {
+    let mut d = Dense::new(plan);
+    let row = d.row();
+    let mut table = vec![0; z.len() * row];
+    d.first(&mut table[..row], z[0] as i64);
+    for i in 1..z.len() {
+        let (before, rest) = table.split_at_mut(i * row);
+        d.step(i, &before[(i - 1) * row..], &mut rest[..row], z[i] as i64);
+    }
+    let end = best_end(plan, &table[(z.len() - 1) * row..]);
+    (end.value < NONE).then(|| Answer {
+        cost: end.value,
+        runs: way_back(plan, z, &table, row, end),
+    })
+}
+
+/// The cheapest end of a row: lowest state, then lowest level.
+fn best_end(plan: &Plan, row: &[i64]) -> Place {
+    let levels = plan.levels();
+    let mut best = Place {
+        k: 0,
+        s: 0,
+        x: 0,
+        value: NONE,
+    };
+    for s in (0..plan.states).filter(|s| plan.end >> s & 1 == 1) {
+        let (value, x) = lowest(&row[s * levels..][..levels], 0, levels as i64 - 1);
+        if value < best.value {
+            best = Place { k: 0, s, x, value }
+        }
+    }
+    best
+}
+
+/// The lowest of the least values from index a to b.
+fn lowest(f: &[i64], a: i64, b: i64) -> (i64, i64) {
+    let mut best = (NONE, 0);
+    for x in a..=b {
+        if f[x as usize] < best.0 {
+            best = (f[x as usize], x)
+        }
+    }
+    best
+}
+
+fn lowest_before(f: &[i64], kind: Kind, x: i64) -> (i64, i64) {
+    let top = f.len() as i64 - 1;
+    match kind {
+        Kind::Stay => (f[x as usize], x),
+        Kind::Any => lowest(f, 0, top),
+        Kind::Up(g) => lowest(f, 0, x - g),
+        Kind::Down(g) => lowest(f, x + g, top),
+        Kind::Abs(g) => {
+            let (below, above) = (lowest(f, 0, x - g), lowest(f, x + g, top));
+            if above.0 < below.0 {
+                above
+            } else {
+                below
+            }
+        }
+    }
+}
+
+/// A place in the table: count, state, index of the level, and the cost there.
+#[derive(Clone, Copy)]
+struct Place {
+    k: usize,
+    s: usize,
+    x: i64,
+    value: i64,
+}
+
+/// The first edge into `at` that meets the wanted cost, and the place in the row before, at its lowest level.
+fn step_back(plan: &Plan, mode: Mode, before: &[i64], at: Place, want: i64) -> (usize, Place) {
+    let levels = plan.levels();
+    for (number, e) in plan.edges.iter().enumerate().filter(|(_, e)| e.to == at.s) {
+        if let Some(k) = count_before(mode, at.k, e.kind) {
+            let f = &before[(k * plan.states + e.from) * levels..][..levels];
+            let (value, x) = lowest_before(f, e.kind, at.x);
+            if value < NONE && value + e.penalty() == want {
+                return (number, Place { k, s: e.from, x, value });
+            }
+        }
+    }
+    unreachable!("some edge meets the cost")
+}
+
+fn way_back(plan: &Plan, z: &[i16], table: &[i64], row: usize, end: Place) -> Vec<Run> {
+    let mut at = end;
+    let mut runs = vec![];
+    let mut run = Run {
+        first: 1,
+        last: z.len(),
+        state: at.s,
+        level: plan.lo + at.x,
+        edge: 255,
+    };
+    for i in (1..z.len()).rev() {
+        let distance = z[i] as i64 - plan.lo - at.x;
+        let before = &table[(i - 1) * row..i * row];
+        let (edge, place) = step_back(plan, mode_at(plan, i), before, at, at.value - distance * distance);
+        let e = plan.edges[edge];
+        if e.kind != Kind::Stay || e.from != e.to {
+            runs.push(Run { first: i + 1, edge, ..run });
+            run = Run {
+                first: 1,
+                last: i,
+                state: place.s,
+                level: plan.lo + place.x,
+                edge: 255,
+            };
+        }
+        at = place;
+    }
+    runs.push(run);
+    runs.reverse();
+    runs
+}

@@ -1,0 +1,143 @@
+//! A layer: one list for each count of changes (0 and 1) and each state, after some readings.
+use crate::list::*;
+use crate::model::*;
+use crate::piece::*;
+
+/// Where things stand in the workspace: two layers, three lists for work, then the saved layers.
+#[derive(Clone, Copy)]
+pub struct Frame {
+    pub lo: i64,
+    pub hi: i64,
+    pub states: usize,
+    pub levels: usize,
+}
+
+impl Frame {
+    pub fn of(plan: &Plan) -> Frame {
+        Frame {
+            lo: plan.lo,
+            hi: plan.hi,
+            states: plan.states,
+            levels: plan.levels(),
+        }
+    }
+
+    pub fn layer_words(self) -> usize {
+        2 * self.states * P * self.levels
+    }
+
+    pub fn list(self, base: usize, k: usize, s: usize) -> usize {
+        base + (k * self.states + s) * P * self.levels
+    }
+
+    fn temp(self, i: usize) -> usize {
+        2 * self.layer_words() + i * P * self.levels
+    }
+
+    /// Where the saved layers begin.
+    pub fn saved(self) -> usize {
+        self.temp(3)
+    }
+
+    pub fn words(self) -> usize {
+        48 * self.states * self.levels
+    }
+}
+
+/// The three lists for work: the least so far, and two free ones.
+#[derive(Clone, Copy)]
+struct Temps {
+    acc: usize,
+    one: usize,
+    two: usize,
+}
+
+/// The layer after the first reading x, at base.
+pub fn first_layer(ws: &mut [u64], fr: Frame, plan: &Plan, base: usize, x: i64) {
+    let acc = fr.temp(0);
+    for s in 0..fr.states {
+        let c = if plan.start >> s & 1 == 1 { 0 } else { NONE };
+        write_constant(ws, acc, c, fr.hi);
+        add_loss(ws, acc, fr.list(base, 0, s), x, fr.hi);
+        write_constant(ws, fr.list(base, 1, s), NONE, fr.hi);
+    }
+}
+
+/// The least so far and g with the penalty. `g` lies in `two` or in a layer.
+fn take(ws: &mut [u64], fr: Frame, t: Temps, g: usize, penalty: i64) -> Temps {
+    least_of_two(ws, t.acc, g, penalty, t.one, fr.lo, fr.hi);
+    Temps {
+        acc: t.one,
+        one: t.acc,
+        two: t.two,
+    }
+}
+
+/// The least so far with an edge from the list at f taken in.
+fn take_edge(ws: &mut [u64], fr: Frame, t: Temps, kind: Kind, f: usize, penalty: i64) -> Temps {
+    match kind {
+        Kind::Stay => take(ws, fr, t, f, penalty),
+        Kind::Any => take_any(ws, fr, t, f, penalty),
+        Kind::Up(g) => take_up(ws, fr, t, f, g, penalty),
+        Kind::Down(g) => take_down(ws, fr, t, f, g, penalty),
+        Kind::Abs(g) => {
+            let t = take_up(ws, fr, t, f, g, penalty);
+            take_down(ws, fr, t, f, g, penalty)
+        }
+    }
+}
+
+fn take_any(ws: &mut [u64], fr: Frame, t: Temps, f: usize, penalty: i64) -> Temps {
+    let c = least_in(ws, f, fr.lo, fr.hi, fr.lo).value;
+    write_constant(ws, t.two, c, fr.hi);
+    take(ws, fr, t, t.two, penalty)
+}
+
+fn take_up(ws: &mut [u64], fr: Frame, t: Temps, f: usize, gap: i64, penalty: i64) -> Temps {
+    running_min(ws, f, t.one, fr.lo, fr.hi);
+    shift(ws, t.one, gap, t.two, fr.lo, fr.hi);
+    take(ws, fr, t, t.two, penalty)
+}
+
+/// Down is up in the mirror.
+fn take_down(ws: &mut [u64], fr: Frame, t: Temps, f: usize, gap: i64, penalty: i64) -> Temps {
+    mirror(ws, f, t.two, fr.lo, fr.hi);
+    running_min(ws, t.two, t.one, -fr.hi, -fr.lo);
+    shift(ws, t.one, gap, t.two, -fr.hi, -fr.lo);
+    mirror(ws, t.two, t.one, -fr.hi, -fr.lo);
+    let t = Temps {
+        acc: t.acc,
+        one: t.two,
+        two: t.one,
+    };
+    take(ws, fr, t, t.two, penalty)
+}
+
+/// List (k, s) at dst from the layer at cur over one boundary, then the loss of x.
+#[allow(clippy::too_many_arguments)]
+fn next_list(ws: &mut [u64], fr: Frame, plan: &Plan, mode: Mode, cur: usize, dst: usize, k: usize, s: usize, x: i64) {
+    let mut t = Temps {
+        acc: fr.temp(0),
+        one: fr.temp(1),
+        two: fr.temp(2),
+    };
+    write_constant(ws, t.acc, NONE, fr.hi);
+    for e in &plan.edges {
+        if e.to == s {
+            if let Some(before) = count_before(mode, k, e.kind) {
+                t = take_edge(ws, fr, t, e.kind, fr.list(cur, before, e.from), e.penalty());
+            }
+        }
+    }
+    add_loss(ws, t.acc, dst, x, fr.hi);
+}
+
+/// The layer at `next` after a boundary, from the layer at `cur`; x is the reading after the boundary.
+pub fn next_layer(ws: &mut [u64], fr: Frame, plan: &Plan, boundary: usize, cur: usize, next: usize, x: i64) {
+    let mode = mode_at(plan, boundary);
+    for k in 0..2 {
+        for s in 0..fr.states {
+            next_list(ws, fr, plan, mode, cur, fr.list(next, k, s), k, s, x);
+        }
+    }
+}

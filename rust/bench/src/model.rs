@@ -1,0 +1,128 @@
+//! Plans as plain data, and what the labels make of the count of changes at a boundary.
+
+#[derive(Clone, Copy, Debug, PartialEq)]
+pub enum Kind {
+    Stay,
+    Any,
+    Up(i64),
+    Down(i64),
+    Abs(i64),
+}
+
+#[derive(Clone, Copy, Debug)]
+pub struct Edge {
+    pub from: usize,
+    pub to: usize,
+    pub kind: Kind,
+    pub class: usize,
+}
+
+/// Exactly `c` changes at boundaries p to q - 1.
+#[derive(Clone, Copy, Debug)]
+pub struct Label {
+    pub p: usize,
+    pub q: usize,
+    pub c: usize,
+}
+
+#[derive(Clone, Debug)]
+pub struct Plan {
+    pub lo: i64,
+    pub hi: i64,
+    pub states: usize,
+    pub start: u8,
+    pub end: u8,
+    pub edges: Vec<Edge>,
+    pub labels: Vec<Label>,
+}
+
+const PENALTIES: [i64; 16] = [0, 1, 2, 5, 10, 20, 50, 100, 200, 500, 1000, 2000, 5000, 10000, 20000, 50000];
+
+impl Edge {
+    pub fn penalty(&self) -> i64 {
+        PENALTIES[self.class]
+    }
+}
+
+impl Plan {
+    pub fn levels(&self) -> usize {
+        (self.hi - self.lo + 1) as usize
+    }
+
+    /// The bytes of a plan file, with one reading.
+    pub fn file(&self) -> Vec<u8> {
+        let two = |value: i64| (value as i16).to_be_bytes();
+        let mut out = vec![];
+        let mut field = |tag: u8, body: &[u8]| {
+            out.extend([tag, 0, body.len() as u8]);
+            out.extend_from_slice(body);
+        };
+        field(1, &[two(self.lo), two(self.hi)].concat());
+        field(2, &[self.states as u8, self.start, self.end]);
+        for e in &self.edges {
+            let (kind, gap) = match e.kind {
+                Kind::Stay => (0, 0),
+                Kind::Any => (1, 0),
+                Kind::Up(gap) => (2, gap),
+                Kind::Down(gap) => (3, gap),
+                Kind::Abs(gap) => (4, gap),
+            };
+            let gap = two(gap);
+            field(3, &[e.from as u8, e.to as u8, kind, gap[0], gap[1], e.class as u8]);
+        }
+        for l in &self.labels {
+            let (p, q) = (two(l.p as i64), two(l.q as i64));
+            field(4, &[p[0], p[1], q[0], q[1], l.c as u8]);
+        }
+        field(5, &[0, 0]);
+        out
+    }
+}
+
+/// How a boundary treats the count of changes inside a label.
+#[derive(Clone, Copy, Debug, PartialEq)]
+pub enum Mode {
+    Free,
+    Inside(usize),
+    Closes(usize),
+}
+
+pub fn mode_at(plan: &Plan, boundary: usize) -> Mode {
+    match plan.labels.iter().find(|l| l.p <= boundary && boundary < l.q) {
+        None => Mode::Free,
+        Some(l) if boundary + 1 == l.q => Mode::Closes(l.c),
+        Some(l) => Mode::Inside(l.c),
+    }
+}
+
+/// The count before a boundary from which count `k` after it is reached over this kind of edge.
+#[inline(always)]
+pub fn count_before(mode: Mode, k: usize, kind: Kind) -> Option<usize> {
+    let count = match mode {
+        Mode::Free => return if k == 0 { Some(0) } else { None },
+        Mode::Inside(c) if k <= c => k,
+        Mode::Closes(c) if k == 0 => c,
+        _ => return None,
+    };
+    if kind == Kind::Stay {
+        Some(count)
+    } else {
+        count.checked_sub(1)
+    }
+}
+
+/// One run; readings are counted from 1, and edge 255 stands for the first run.
+#[derive(Clone, Copy, Debug, PartialEq)]
+pub struct Run {
+    pub first: usize,
+    pub last: usize,
+    pub state: usize,
+    pub level: i64,
+    pub edge: usize,
+}
+
+#[derive(Clone, Debug, PartialEq)]
+pub struct Answer {
+    pub cost: i64,
+    pub runs: Vec<Run>,
+}

@@ -1,0 +1,67 @@
+//! The tables, as a Markdown page.
+use crate::measure::{Measured, Times};
+
+const TEXT: &str = "\
+# Benchmark
+
+The proved search, called through the static library, against two programmes in Rust:
+
+- **Rust**: the same algorithm (cost functions as lists of pieces, saved layers in the same workspace), without index checks, as proved code
+  runs without them.
+- **dense**: a programme over all levels that keeps the whole table in memory and that the compiler vectorises.
+
+Before each case was timed, all answers were compared: the same cost from every call, the same runs from every search. A time is processor time, the
+least of several runs, the programmes by turns in one process. Times are milliseconds of one machine; the ratios are what can be compared.
+
+- **whole search**: cost and runs of a record.
+- **cost only**: `yeldaski_point` at the end of the cheapest segmentation, against one pass forward and the same look-up in Rust, and against the
+  dense programme with two rows, which gives the least cost over all ends.
+- **proved / Rust**: below 1 the proved code is faster. **dense / proved**: above 1 the proved code is faster.
+- **pieces**: mean and most pieces of a cost function. **passes**: steps forward of a whole search divided by the readings. Both are counted in
+  the Rust version.
+";
+
+fn ratio(a: f64, b: f64) -> String {
+    format!("{:.2}", a / b)
+}
+
+fn times(t: &Times) -> String {
+    format!(
+        "{:.2} | {:.2} | {:.2} | {} | {}",
+        t.proved,
+        t.rust,
+        t.dense,
+        ratio(t.proved, t.rust),
+        ratio(t.dense, t.proved)
+    )
+}
+
+/// The columns of one kind of call.
+fn table(title: &str, first: &str, rows: &[Measured], of: fn(&Measured) -> &Times) -> String {
+    let mut text = format!("\n## {title}\n\n| {first} | proved | Rust | dense | proved / Rust | dense / proved |\n|---|---|---|---|---|---|\n");
+    for row in rows {
+        text += &format!("| {} | {} |\n", row.name, times(of(row)));
+    }
+    text
+}
+
+fn pieces(rows: &[&Measured]) -> String {
+    let mut text = String::from("\n## Pieces and passes\n\n| case | mean pieces | most pieces | passes |\n|---|---|---|---|\n");
+    for row in rows {
+        let mean = row.stats.pieces as f64 / row.stats.functions.max(1) as f64;
+        text += &format!("| {} | {mean:.1} | {} | {:.2} |\n", row.name, row.stats.most, row.passes);
+    }
+    text
+}
+
+pub fn write(usual: &[Measured], growing: &[Measured], worst: &[Measured]) -> String {
+    let mut text = String::from(TEXT);
+    text += &table("Whole search, n = 4,096", "case", usual, |row| &row.whole);
+    text += &table("Cost only, n = 4,096", "case", usual, |row| &row.cost);
+    text += &table("How a whole search grows", "case", growing, |row| &row.whole);
+    if !worst.is_empty() {
+        text += &table("Worst known records, whole search, n = 4,096", "case", worst, |row| &row.whole);
+    }
+    let all: Vec<&Measured> = usual.iter().chain(worst).collect();
+    text + &pieces(&all)
+}

@@ -1,0 +1,84 @@
+//! Saved layers: a stack in the rest of the workspace, with a small table of times and places.
+use crate::layer::*;
+use crate::list::*;
+
+pub const SLOTS: usize = 96;
+
+/// Entry i: the layer after `time[i]` readings in the words off[i] .. off[i + 1].
+pub struct Saved {
+    pub count: usize,
+    pub time: [usize; SLOTS],
+    off: [usize; SLOTS + 1],
+}
+
+impl Saved {
+    pub fn empty(first: usize) -> Saved {
+        Saved {
+            count: 0,
+            time: [0; SLOTS],
+            off: [first; SLOTS + 1],
+        }
+    }
+}
+
+/// Words that the layer at `cur` takes when it is saved: only the pieces there are.
+fn layer_length(ws: &[u64], fr: Frame, cur: usize) -> usize {
+    (0..2 * fr.states).map(|j| length(ws, fr.list(cur, 0, j), fr.hi)).sum()
+}
+
+/// Slots that are free, later layers taken as a quarter larger than the one at hand.
+pub fn free_slots(ws: &[u64], fr: Frame, saved: &Saved, cur: usize) -> usize {
+    let need = layer_length(ws, fr, cur) * 5 / 4;
+    let free = fr.words() - saved.off[saved.count];
+    (free / need.max(1)).min(SLOTS - saved.count)
+}
+
+/// Saves the layer at `cur` as that after t readings, where there is room.
+pub fn save(ws: &mut [u64], fr: Frame, saved: &mut Saved, cur: usize, t: usize) {
+    let at = saved.off[saved.count];
+    if saved.count == SLOTS || at + layer_length(ws, fr, cur) > fr.words() {
+        return;
+    }
+    let mut to = at;
+    for j in 0..2 * fr.states {
+        to += copy_list(ws, fr.list(cur, 0, j), to, fr.hi);
+    }
+    saved.time[saved.count] = t;
+    saved.count += 1;
+    saved.off[saved.count] = to;
+}
+
+/// Puts the layer saved last at `cur`.
+pub fn load(ws: &mut [u64], fr: Frame, saved: &Saved, cur: usize) {
+    let mut from = saved.off[saved.count - 1];
+    for j in 0..2 * fr.states {
+        from += copy_list(ws, from, fr.list(cur, 0, j), fr.hi);
+    }
+}
+
+/// Copies the list at f and gives its words.
+fn copy_list(ws: &mut [u64], f: usize, to: usize, hi: i64) -> usize {
+    let n = length(ws, f, hi);
+    ws.copy_within(f..f + n, to);
+    n
+}
+
+/// Where to save next on the way from a to t with c slots free; t where there is none.
+pub fn next_save(a: usize, t: usize, c: usize) -> usize {
+    let d = t - a;
+    if d < 2 || c == 0 {
+        return t;
+    }
+    let r = repeats(d, c + 1); // the layer of a itself counts as a slot
+    a + (d * r / (c + 1 + r)).max(1)
+}
+
+/// The least r with binomial(c + r, r) >= d.
+fn repeats(d: usize, c: usize) -> usize {
+    let (mut r, mut b) = (0, 1);
+    while b < d {
+        r += 1;
+        b = b * (c + r) / r;
+    }
+    r
+}

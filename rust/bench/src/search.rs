@@ -1,0 +1,230 @@
+//! The search: forward to the last reading, then back boundary by boundary, with layers made again from saved ones.
+use crate::layer::*;
+use crate::list::*;
+use crate::model::*;
+use crate::piece::*;
+use crate::saved::*;
+
+/// The pieces of one pass forward: of all functions, how many functions, and the most in one.
+#[derive(Clone, Copy, Debug, Default)]
+pub struct Stats {
+    pub pieces: usize,
+    pub functions: usize,
+    pub most: usize,
+}
+
+/// The layer after `time` readings stands at `cur`.
+struct Walk {
+    time: usize,
+    cur: usize,
+    other: usize,
+    saved: Saved,
+    steps: usize,
+}
+
+fn step(ws: &mut [u64], fr: Frame, plan: &Plan, z: &[i16], wk: &mut Walk) {
+    next_layer(ws, fr, plan, wk.time, wk.cur, wk.other, z[wk.time] as i64);
+    std::mem::swap(&mut wk.cur, &mut wk.other);
+    wk.time += 1;
+    wk.steps += 1;
+}
+
+/// Forward to t, with layers saved on the way.
+fn advance(ws: &mut [u64], fr: Frame, plan: &Plan, z: &[i16], wk: &mut Walk, t: usize) {
+    let mut save_at = next_save(wk.time, t, free_slots(ws, fr, &wk.saved, wk.cur));
+    while wk.time < t {
+        step(ws, fr, plan, z, wk);
+        if wk.time == save_at && wk.time < t {
+            save(ws, fr, &mut wk.saved, wk.cur, wk.time);
+            save_at = next_save(wk.time, t, free_slots(ws, fr, &wk.saved, wk.cur));
+        }
+    }
+}
+
+/// Back to t: from the last layer saved that is not later, and forward again.
+fn rewind(ws: &mut [u64], fr: Frame, plan: &Plan, z: &[i16], wk: &mut Walk, t: usize) {
+    while wk.saved.count > 0 && wk.saved.time[wk.saved.count - 1] > t {
+        wk.saved.count -= 1;
+    }
+    if wk.saved.count > 0 {
+        load(ws, fr, &wk.saved, wk.cur);
+        wk.time = wk.saved.time[wk.saved.count - 1];
+    } else {
+        first_layer(ws, fr, plan, wk.cur, z[0] as i64);
+        wk.time = 1;
+    }
+    advance(ws, fr, plan, z, wk, t);
+}
+
+/// A point of a segmentation: count, state, level, and its least cost.
+#[derive(Clone, Copy, Debug)]
+struct Point {
+    k: usize,
+    s: usize,
+    level: i64,
+    value: i64,
+}
+
+/// The cheapest end in the layer at cur: lowest state, then lowest level.
+fn best_end(ws: &[u64], fr: Frame, plan: &Plan, cur: usize) -> Point {
+    let mut best = Point {
+        k: 0,
+        s: 0,
+        level: fr.lo,
+        value: NONE,
+    };
+    for s in 0..fr.states {
+        if plan.end >> s & 1 == 1 {
+            let low = least_in(ws, fr.list(cur, 0, s), fr.lo, fr.hi, fr.lo);
+            if low.value < best.value {
+                best = Point {
+                    k: 0,
+                    s,
+                    level: low.level,
+                    value: low.value,
+                };
+            }
+        }
+    }
+    best
+}
+
+/// The least of f over the levels from which the kind permits m.
+fn least_before(ws: &[u64], fr: Frame, kind: Kind, f: usize, m: i64) -> Low {
+    let (lo, hi) = (fr.lo, fr.hi);
+    match kind {
+        Kind::Stay => least_in(ws, f, m, m, lo),
+        Kind::Any => least_in(ws, f, lo, hi, lo),
+        Kind::Up(g) => least_in(ws, f, lo, m - g, lo),
+        Kind::Down(g) => least_in(ws, f, m + g, hi, lo),
+        Kind::Abs(g) => {
+            let below = least_in(ws, f, lo, m - g, lo);
+            let above = least_in(ws, f, m + g, hi, lo);
+            if above.value < below.value {
+                above
+            } else {
+                below
+            }
+        }
+    }
+}
+
+/// The step back over a boundary into the layer at cur: the first edge that meets the wanted cost, at its lowest level.
+fn step_back(ws: &[u64], fr: Frame, plan: &Plan, boundary: usize, cur: usize, pt: Point, want: i64) -> (usize, Point) {
+    let mode = mode_at(plan, boundary);
+    for (n, e) in plan.edges.iter().enumerate() {
+        if e.to == pt.s {
+            if let Some(k) = count_before(mode, pt.k, e.kind) {
+                let low = least_before(ws, fr, e.kind, fr.list(cur, k, e.from), pt.level);
+                if low.value < NONE && low.value + e.penalty() == want {
+                    return (
+                        n,
+                        Point {
+                            k,
+                            s: e.from,
+                            level: low.level,
+                            value: low.value,
+                        },
+                    );
+                }
+            }
+        }
+    }
+    unreachable!("some edge meets the cost")
+}
+
+fn forward(ws: &mut [u64], fr: Frame, plan: &Plan, z: &[i16]) -> Walk {
+    let mut wk = Walk {
+        time: 1,
+        cur: 0,
+        other: fr.layer_words(),
+        saved: Saved::empty(fr.saved()),
+        steps: 0,
+    };
+    first_layer(ws, fr, plan, 0, z[0] as i64);
+    advance(ws, fr, plan, z, &mut wk, z.len());
+    wk
+}
+
+/// Cost at a point after all of z; the workspace is cleared, as the proved call does.
+pub fn point(ws: &mut [u64], plan: &Plan, z: &[i16], s: usize, m: i64) -> Option<i64> {
+    let fr = Frame::of(plan);
+    let wk = forward(ws, fr, plan, z);
+    let costs = [0, 1].map(|k| least_in(ws, fr.list(wk.cur, k, s), m, m, fr.lo).value);
+    ws.fill(0);
+    costs.into_iter().min().filter(|cost| *cost < NONE)
+}
+
+/// The search; the workspace is cleared, as the proved call does. Also the steps forward that it took.
+pub fn search(ws: &mut [u64], plan: &Plan, z: &[i16]) -> (Option<Answer>, usize) {
+    let fr = Frame::of(plan);
+    let mut wk = forward(ws, fr, plan, z);
+    let end = best_end(ws, fr, plan, wk.cur);
+    let answer = (end.value < NONE).then(|| Answer {
+        cost: end.value,
+        runs: way_back(ws, fr, plan, z, &mut wk, end),
+    });
+    ws.fill(0);
+    (answer, wk.steps)
+}
+
+/// The runs, found last first and turned round in place.
+fn way_back(ws: &mut [u64], fr: Frame, plan: &Plan, z: &[i16], wk: &mut Walk, end: Point) -> Vec<Run> {
+    let mut runs = Vec::with_capacity(z.len());
+    let mut run = Run {
+        first: 1,
+        last: z.len(),
+        state: end.s,
+        level: end.level,
+        edge: 255,
+    };
+    let mut pt = end;
+    for i in (1..z.len()).rev() {
+        rewind(ws, fr, plan, z, wk, i);
+        let x = z[i] as i64;
+        let want = pt.value - (x - pt.level) * (x - pt.level);
+        let (edge, before) = step_back(ws, fr, plan, i, wk.cur, pt, want);
+        let e = plan.edges[edge];
+        if e.kind != Kind::Stay || e.from != e.to {
+            runs.push(Run { first: i + 1, edge, ..run });
+            run = Run {
+                first: 1,
+                last: i,
+                state: before.s,
+                level: before.level,
+                edge: 255,
+            };
+        }
+        pt = before;
+    }
+    runs.push(run);
+    runs.reverse();
+    runs
+}
+
+/// One pass forward with its pieces counted, functions that are none everywhere aside.
+pub fn stats(ws: &mut [u64], plan: &Plan, z: &[i16]) -> Stats {
+    let fr = Frame::of(plan);
+    let mut wk = Walk {
+        time: 1,
+        cur: 0,
+        other: fr.layer_words(),
+        saved: Saved::empty(fr.saved()),
+        steps: 0,
+    };
+    let mut stats = Stats::default();
+    first_layer(ws, fr, plan, 0, z[0] as i64);
+    while wk.time < z.len() {
+        step(ws, fr, plan, z, &mut wk);
+        for j in 0..2 * fr.states {
+            let f = fr.list(wk.cur, 0, j);
+            let n = length(ws, f, fr.hi) / P;
+            if n > 1 || !piece(ws, f).is_none() {
+                stats.pieces += n;
+                stats.functions += 1;
+                stats.most = stats.most.max(n);
+            }
+        }
+    }
+    stats
+}

@@ -1,0 +1,166 @@
+//! Which file each case starts from.
+use crate::gen::{self, Case, Size};
+use crate::plan::{self, Edge, Plan};
+use crate::rng::Rng;
+use crate::search::Record;
+use crate::{selftest, RULES};
+
+#[derive(Clone, Copy, PartialEq)]
+pub enum Profile {
+    Tiny,
+    Small,
+    Program,
+    Damaged,
+    Mutated,
+    Wide,
+    Large,
+    Replies,
+    MutatedReplies,
+}
+
+impl Profile {
+    pub fn name(self) -> &'static str {
+        match self {
+            Profile::Tiny => "tiny",
+            Profile::Small => "small",
+            Profile::Program => "program",
+            Profile::Damaged => "damaged",
+            Profile::Mutated => "mutated",
+            Profile::Wide => "wide",
+            Profile::Large => "large",
+            Profile::Replies => "replies",
+            Profile::MutatedReplies => "mutated replies",
+        }
+    }
+
+    pub fn is_reply(self) -> bool {
+        matches!(self, Profile::Replies | Profile::MutatedReplies)
+    }
+}
+
+/// The profiles take turns. The oracle is slow on long records and wide grids, so these are rare.
+pub fn profile_of(case: u64) -> Profile {
+    if case % 1_000 == 500 {
+        return Profile::Large;
+    }
+    match case % 40 {
+        0..=7 => Profile::Tiny,
+        8..=15 => Profile::Small,
+        16..=24 => Profile::Damaged,
+        25..=31 => Profile::Mutated,
+        32 => Profile::Program,
+        33 | 34 => Profile::Wide,
+        35..=37 => Profile::Replies,
+        _ => Profile::MutatedReplies,
+    }
+}
+
+/// A plan file or an answer file.
+pub fn file(rng: &mut Rng, profile: Profile, case: u64) -> Vec<u8> {
+    // which damage the oracle's generators do
+    let damage = rng.below(gen::DAMAGES * 16);
+    match profile {
+        Profile::Tiny => selftest::tiny_case(rng, RULES, 400_000).file(RULES),
+        Profile::Small => small(rng).file(RULES),
+        Profile::Program if rng.one_in(5) => special(rng).file(RULES),
+        Profile::Program => gen::program_case(rng, RULES).file(RULES),
+        Profile::Damaged => gen::damaged_file(rng, RULES, damage),
+        Profile::Mutated => {
+            let whole = small(rng).file(RULES);
+            mutated(rng, whole)
+        }
+        Profile::Wide => wide(rng).file(RULES),
+        Profile::Large => large(rng, case / 1_000).file(RULES),
+        Profile::Replies if rng.one_in(2) => gen::damaged_reply(rng, RULES, 0),
+        Profile::Replies => gen::damaged_reply(rng, RULES, damage),
+        Profile::MutatedReplies => {
+            let whole = gen::damaged_reply(rng, RULES, 0);
+            mutated(rng, whole)
+        }
+    }
+}
+
+fn special(rng: &mut Rng) -> Case {
+    let which = rng.below(gen::SPECIALS as u64) as usize;
+    gen::special_case(rng, RULES, which)
+}
+
+/// A small case, now and then one of the boundary cases that are not long records.
+fn small(rng: &mut Rng) -> Case {
+    if rng.one_in(5) {
+        let which = rng.below(gen::SPECIALS as u64) as usize;
+        return gen::special_case(rng, RULES, if (19..23).contains(&which) { 3 } else { which });
+    }
+    gen::small_case(rng, RULES)
+}
+
+/// Bytes set, inserted, removed or doubled at random places.
+fn mutated(rng: &mut Rng, mut bytes: Vec<u8>) -> Vec<u8> {
+    for _ in 0..rng.range(1, 4) {
+        if bytes.is_empty() {
+            break;
+        }
+        let at = rng.below(bytes.len() as u64) as usize;
+        match rng.below(6) {
+            0 => bytes[at] = rng.below(256) as u8,
+            1 => bytes[at] ^= 1 << rng.below(8),
+            2 => bytes[at] = bytes[at].wrapping_add(rng.pick(&[1, 255])),
+            3 => bytes.insert(at, rng.pick(&[0, 1, 3, 4, 5, 255])),
+            4 => drop(bytes.remove(at)),
+            _ => {
+                let end = (at + rng.range(1, 12) as usize).min(bytes.len());
+                let part = bytes[at..end].to_vec();
+                bytes.splice(at..at, part);
+            }
+        }
+    }
+    bytes
+}
+
+/// The steps that the oracle takes for one list of readings.
+pub fn effort(plan: &Plan, n: usize) -> u64 {
+    (n * plan.edges.len().max(1) * plan.levels() * plan.levels()) as u64
+}
+
+/// Any numbers of states, edges and levels, with as many readings as the oracle can take in some tenths of a second.
+fn wide(rng: &mut Rng) -> Case {
+    let levels = 1 << rng.range(2, 10);
+    let edges = rng.range(1, 32);
+    let n = (40_000_000 / (edges * levels * levels)).clamp(2, 4_096);
+    gen::random_case(
+        rng,
+        RULES,
+        Size {
+            n,
+            states: 8,
+            levels,
+            edges,
+            cells: 8 * levels,
+        },
+    )
+}
+
+/// A usual plan on a long record and a wide grid, as far as some seconds of the oracle allow; one in twenty is both longest and widest.
+fn large(rng: &mut Rng, number: u64) -> Case {
+    let (levels, n) = match number % 20 {
+        0 => (256, 4_096),
+        1 => (1_024, 300),
+        10 => (1_024, 4_096),
+        _ => rng.pick(&[(128, 4_096), (512, 1_024), (300, 3_201)]),
+    };
+    let lo = rng.pick(&[-32_768, -512, 0, 31_744]);
+    let kinds = rng.pick(&[[plan::ANY, plan::ANY], [plan::UP, plan::DOWN], [plan::ABS, plan::UP]]);
+    let mut whole = plan::open(RULES, 1, lo as i16, (lo + levels - 1) as i16, 2, 1, 3).expect("a grid");
+    for (from, to, kind, class) in [(0, 0, plan::STAY, 0), (1, 1, plan::STAY, 0), (0, 1, kinds[0], 9), (1, 0, kinds[1], 6)] {
+        let gap = if kind <= plan::ANY { 0 } else { rng.range(0, levels / 4) as u16 };
+        plan::add_edge(RULES, &mut whole, &Edge { from, to, kind, gap, class }).expect("an edge");
+    }
+    plan::add_label(RULES, &mut whole, 10, 100, 1).expect("a label");
+    plan::add_label(RULES, &mut whole, 100, 120, 0).expect("a label");
+    plan::seal(RULES, &mut whole, false).expect("sealing");
+    let readings = gen::trace(rng, lo, lo + levels - 1, n);
+    Case {
+        plan: whole,
+        record: Record::plain(&readings),
+    }
+}

@@ -1,0 +1,85 @@
+//! The examples of the scope paper, with exactly sized and with larger buffers.
+mod common;
+use common::*;
+
+/// Cost and run numbers by a search, the same with exactly sized and with larger buffers.
+fn found(plan: &Plan, readings: &[i16]) -> Searched {
+    let file = plan.file(&[0]);
+    let (words, room) = (plan.words(), 5 * readings.len());
+    let exact = search(&file, readings, words, words, room);
+    assert_eq!(search(&file, readings, words, words + 7, room + 9), exact);
+    exact
+}
+
+/// A run in state 0: first, last, level, edge.
+fn run(first: i32, last: i32, level: i32, edge: i32) -> [i32; 5] {
+    [first, last, 0, level, edge]
+}
+
+const TOY: [i16; 4] = [2, 1, 0, 4];
+
+#[test]
+fn toy_data() {
+    let three = [run(1, 1, 2, 255), run(2, 3, 0, 1), run(4, 4, 4, 1)].concat();
+    assert_eq!(found(&plan_a(0, 4, 1), &TOY), Ok((3, three)));
+    assert_eq!(found(&plan_a(0, 4, 4), &TOY), Ok((9, run(1, 4, 2, 255).to_vec())));
+}
+
+#[test]
+fn toy_data_with_labels() {
+    assert_eq!(found(&plan_a(0, 4, 1).label(1, 4, 0), &TOY), Ok((9, run(1, 4, 2, 255).to_vec())));
+    let three = [run(1, 2, 1, 255), run(3, 3, 0, 1), run(4, 4, 4, 1)].concat();
+    assert_eq!(found(&plan_a(0, 4, 1).label(2, 3, 1), &TOY), Ok((3, three)));
+}
+
+#[test]
+fn cost_at_a_point() {
+    let plan = plan_a(0, 4, 1);
+    assert_eq!(point(&plan.file(&[0]), &TOY[..2], 0, 0, plan.words(), plan.words()), Ok(2));
+    assert_eq!(point(&plan.file(&[0]), &TOY[..2], 0, 0, plan.words(), plan.words() + 5), Ok(2));
+}
+
+#[test]
+fn negative_levels() {
+    assert_eq!(found(&plan_a(-9, 0, 4), &[-3, -4]), Ok((1, run(1, 2, -4, 255).to_vec())));
+}
+
+#[test]
+fn lower_edge_first_among_equal_costs() {
+    assert_eq!(found(&plan_a(0, 9, 0), &[3, 3]), Ok((0, run(1, 2, 3, 255).to_vec())));
+    let swapped = Plan::new(0, 9, 1, 1, 1).edge(0, 0, ANY, 0, 0).edge(0, 0, STAY, 0, 0);
+    assert_eq!(found(&swapped, &[3, 3]), Ok((0, [run(1, 1, 3, 255), run(2, 2, 3, 0)].concat())));
+}
+
+#[test]
+fn up_and_down() {
+    let humps = [1, 5, 5, 1];
+    let runs = vec![1, 1, 0, 1, 255, 2, 3, 1, 5, 2, 4, 4, 0, 1, 3];
+    assert_eq!(found(&plan_b(1, 0), &humps), Ok((1, runs)));
+    let (cost, runs) = found(&plan_b(1, 5), &humps).unwrap();
+    assert_eq!((cost, runs[3]), (2, 0));
+    assert_eq!(found(&plan_b(1, 7), &humps), Ok((16, run(1, 4, 3, 255).to_vec())));
+}
+
+#[test]
+fn no_allowed_segmentation() {
+    assert_eq!(found(&plan_b(2, 0), &[3]), Err(16));
+}
+
+#[test]
+fn widest_grid() {
+    assert_eq!(found(&plan_a(0, 1023, 0), &[1023]), Ok((0, run(1, 1, 1023, 255).to_vec())));
+    assert_eq!(read_plan(&plan_a(0, 1024, 0).file(&[0]), 1), Err(4));
+}
+
+#[test]
+fn whole_file() {
+    let plan = [
+        0x01, 0, 4, 0, 0, 0, 9, 0x02, 0, 3, 1, 1, 1, 0x03, 0, 6, 0, 0, 0, 0, 0, 0, 0x03, 0, 6, 0, 0, 1, 0, 0, 4, 0x05, 0, 4, 0, 3, 0, 4,
+    ];
+    let answer = vec![0x81, 0, 8, 0, 0, 0, 0, 0, 0, 0, 1, 0x82, 0, 8, 0, 1, 0, 2, 0, 0, 3, 0xFF];
+    let readings = read_plan(&plan, 2).unwrap();
+    assert_eq!(readings, [3, 4]);
+    let (cost, runs) = search(&plan, &readings, 480, 7_680, 16_000).unwrap();
+    assert_eq!(write_answer(cost, &runs, 22), Ok(answer));
+}

@@ -1,0 +1,15 @@
+//! Refusals as text.
+use yeldaski::Refusal;
+
+#[test]
+fn number_and_sentence() {
+    assert_eq!(Refusal(7).to_string(), "refusal 7: same from, to and kind as an earlier edge");
+    assert_eq!(Refusal(14).to_string(), "refusal 14: workspace under 48 × S × L words of 64 bits");
+    for number in 1..=17 {
+        let text = Refusal(number).to_string();
+        assert!(
+            text.starts_with(&format!("refusal {number}: ")) && !text.contains("not a refusal"),
+            "{text}"
+        );
+    }
+}
