@@ -12,7 +12,7 @@ use mathlib.Core.Bool.{Bool, true, false}
 use lib.Dec.{eqb, leb}
 use borrow.Author.Tests.{le-leb, lt-leb}
 use Rattle.quadratic.specs.Quad.{Small, Sized, Fine, Stays, Under, Over, up, down, value, pick, better, raised, none, flat, moved, mirrored}
-use Rattle.curve.specs.Pieces.{endOf, startOf, quadAt, piece, Formed, Built, Is, Kept, Same, Stored, Appended, Emits, Made, Held, Lent, shiftOf, mirrorOf, Turnable}
+use Rattle.curve.specs.Pieces.{endOf, startOf, quadAt, piece, Formed, Built, Is, Kept, Same, Stored, Appended, Emits, Made, Held, Lent, shiftOf, mirrorOf, Turnable, Yields}
 use Rattle.curve.specs.Lists.{last-or, start-next, start-zero, count-le, end-lt, piece-at, same-quad, built-put, built-longer, kept-same, kept-refl, kept-then, kept-wider, kept-lent, same-end, same-start, opened, count-same, count-most, built-most, emits-none, emits-append}
 
 pub set-kept : (ws : List ℕ) (i v : ℕ) → Kept ws (set ws i v) i 1
@@ -211,6 +211,9 @@ raised-same pen e = ap (raised pen) e
 
 pub better-same : (v : ℕ) {p p′ q q′ : Quad} → p ≡ p′ → q ≡ q′ → better v p q ≡ better v p′ q′
 better-same v {p} {p′} {q} {q′} e g = ap (λ (t : Quad). better v t q) e ∙ ap (λ (t : Quad). better v p′ t) g
+
+pub yields-same : (v : ℕ) {p p′ q q′ : Quad} → p ≡ p′ → q ≡ q′ → Yields v p q → Yields v p′ q′
+yields-same v d e h n = sym (better-same v d e) ∙ h (ap (λ (x : Quad). x .c) d ∙ n) ∙ e
 
 pub start-pos : (ws : List ℕ) (o k : ℕ) → 0 < k → startOf ws o k ≡ endOf ws o (k - 1) + 1
 start-pos ws o k h = let e : k - 1 + 1 ≡ k = omega arith in rw e at (start-next ws o (k - 1))

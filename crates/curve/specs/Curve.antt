@@ -16,7 +16,7 @@ use Rattle.quadratic.specs.declared.Quad.{Quad}
 use Rattle.quadratic.specs.Quad.{up, down, value, none, flat, Small, Sized, Fine, pick, raised, pushed, moved, mirrored, better}
 use Rattle.quadratic.specs.Fine.{pickN, Bounds, far, plus, square-most, fine-sized, fine-none, fine-flat, fine-wider, fine-raised, value-raised, fine-pushed, value-pushed, fine-moved, value-moved, mirror-sum, mirror-rest, fine-mirrored, value-mirrored, value-better, fine-better, value-most, kinds}
 use Rattle.curve.specs.declared.Low.{Low}
-use Rattle.curve.specs.Pieces.{piece, noneOnly, Formed, Kept, Same, Apart, Made, Held, Lent, Copyable, Copied, shiftOf, mirrorOf, Turnable}
+use Rattle.curve.specs.Pieces.{piece, noneOnly, Formed, Kept, Same, Apart, Made, Held, Lent, Copyable, Copied, shiftOf, mirrorOf, Turnable, Yields}
 use Rattle.curve.specs.Lists.{same-built, kept-same, opened, count-most, closed, copied-built, none-only}
 use Rattle.curve.specs.Lows.{top, costs, Least, LeastIn, lowest, prefixOf, lowest-zero, lowest-new, lowest-old, lowest-among, prefix-new, prefix-old}
 
@@ -111,6 +111,26 @@ module _ {A B base L : ℕ} (l : Limits A B base L) {ws : List ℕ} {o : ℕ} {F
 
 pub curve-raised : {A B base L : ℕ} (pen : ℕ) → Limits A (B + pen) base L → {ws : List ℕ} {o : ℕ} {F : ℕ → ℕ} → Curve A B base L ws o F → (j : ℕ) → j < L → Sized (raised pen (piece ws o L j))
 curve-raised pen l c j h = fine-sized (bounds l j h) (fine-raised pen (record { readings = l .readings; cost = omega (arith, l .cost); place = omega (arith, l .high) }) (c .at j h .fine))
+
+-- where the first of two is none, the second is the better: none is above every cost
+none-yields : {A B v : ℕ} {q : Quad} → Bounds A B v → Fine A B q v → better v (flat none) q ≡ q
+none-yields {v = v} {q = q} b f = ⊎-elim
+    (λ e. subst (λ (p : Quad). better v (flat none) p ≡ p) (sym e) (one (leb (up (flat none) v + down (flat none) v) (up (flat none) v + down (flat none) v)) (flat none)))
+    (λ e. ap (λ (t : Bool). pick t (flat none) q) (lt-leb (up (flat none) v + down q v) (up q v + down (flat none) v) (omega (arith, e .1, b .cost))))
+    (kinds b f)
+  where
+    one : (t : Bool) (p : Quad) → pick t p p ≡ p
+    one true p = refl
+    one false p = refl
+
+pub curve-yields : {A B C base L : ℕ} {ws : List ℕ} {f g : ℕ} {F G : ℕ → ℕ} (pen : ℕ) → C + pen ≤ B → Limits A B base L → Curve A B base L ws f F → Curve A C base L ws g G
+    → (j : ℕ) → j < L → Yields (base + j) (piece ws f L j) (raised pen (piece ws g L j))
+curve-yields {A} {B} {C} {base} {L} {ws} {f} {g} pen hb l cf cg j h n =
+    let b : Bounds A C (base + j) = record { readings = l .readings; cost = omega (arith, l .cost); place = omega (arith, l .high) } in
+    let q = fine-wider A B (omega arith) hb (fine-raised pen b (cg .at j h .fine)) in ⊎-elim
+    (λ e. subst (λ (p : Quad). better (base + j) p (raised pen (piece ws g L j)) ≡ raised pen (piece ws g L j)) (sym e) (none-yields (bounds l j h) q))
+    (λ e. let z : eqb none none ≡ false = rw n at (e .0) in let y : _≡_ {A = ℕ} 0 1 = cc (eq-eqb none none refl) in absurd (omega arith))
+    (kinds (bounds l j h) (cf .at j h .fine))
 
 -- ---- what is made
 made-curve : {A B base L : ℕ} {ws ws′ : List ℕ} {dst : ℕ} {P : ℕ → Quad} (F : ℕ → ℕ) → dst + 4 * L ≤ length ws → Made P ws ws′ dst L → ((j : ℕ) → j < L → Costs A B (base + j) (P j) (F j)) → Curve A B base L ws′ dst F

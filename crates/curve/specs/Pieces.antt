@@ -9,7 +9,7 @@ use lib.Dec.{leb, eqb}
 use lib.ListN.{length, getD}
 use Rattle.quadratic.specs.declared.Quad.{Quad}
 use Rattle.quadratic.specs.Fine.{pickN}
-use Rattle.quadratic.specs.Quad.{Sized, pick, flat, none, moved, mirrored}
+use Rattle.quadratic.specs.Quad.{Sized, pick, flat, none, moved, mirrored, better}
 
 -- the last level of the kth piece of the list at o, and its first
 abbrev pub endOf : List ℕ → ℕ → ℕ → ℕ
@@ -101,6 +101,10 @@ pub record Lent (ws : List ℕ) (o dst len L : ℕ) : Type 0 where
   pub formed : Formed ws o L
   pub room : o + 4 * formed .count ≤ length ws
   pub apart : (o + 4 * formed .count ≤ dst) ⊎ (dst + len ≤ o)
+
+-- where p is none, q is the better one
+abbrev pub Yields : ℕ → Quad → Quad → Type 0
+Yields v p q = p .c ≡ none → better v p q ≡ q
 
 -- what becomes of F
 abbrev pub shiftOf : ℕ → (ℕ → Quad) → ℕ → Quad

@@ -18,7 +18,7 @@ ghost use Prim.Native.Nat.{ℕ, _+_, _*_, _-_, _≤_, _<_};
 ghost use lib.ListN.{length, getD};
 ghost use Rattle.quadratic.specs.Quad.{Small, Sized, Fine, raised, pushed, moved, mirrored, better, value, flat, none, up, down, Over};
 ghost use Rattle.curve.specs.Lows.{LeastIn, Drops, Prefixed, Lowered, prefixOf, costs, lowest};
-ghost use Rattle.curve.specs.Pieces.{noneOnly, quadAt, Kept, Built, Is, Formed, piece, Stored, Appended, Emits, Made, Apart, Held, Lent, Copyable, Copied, startOf, endOf, endsBelow, shiftOf, mirrorOf, Turnable};
+ghost use Rattle.curve.specs.Pieces.{Yields, noneOnly, quadAt, Kept, Built, Is, Formed, piece, Stored, Appended, Emits, Made, Apart, Held, Lent, Copyable, Copied, startOf, endOf, endsBelow, shiftOf, mirrorOf, Turnable};
 
 // The piece at a place, without its end.
 fn load(ws: &[u64], at: usize) -> Quad
@@ -127,6 +127,28 @@ fn least_on(
     k
 }
 
+// The better of p and q at the levels from x to y. Where p is none it is q, and none is frequent: each least so far begins with it.
+fn least_part(
+    ws: &mut [u64],
+    dst: usize,
+    n: usize,
+    p: Quad,
+    q: Quad,
+    x: u64,
+    y: u64,
+    base: u64,
+) -> usize
+    requires { ⌜ (Sized p × Sized q) × (base + y < 262144) ⌝ }
+    requires { ⌜ ((n ≤ x) × (x ≤ y)) × (dst + 4 * (y + 1) ≤ length (now ws)) ⌝ }
+    requires { ⌜ ((j : ℕ) → x ≤ j → j ≤ y → Yields (base + j) p q) ⌝ }
+    ensures { λ r. ⌜ Emits (λ (j : ℕ). better (base + j) p q) (now (ws .entry)) (now (ws .exit)) dst n x (y + 1) r ⌝ }
+{
+    if p.c == quadratic::NONE {
+        return append(ws, dst, n, y, q);
+    }
+    least_on(ws, dst, n, p, q, x, y, base)
+}
+
 // The less of two numbers.
 fn lesser(e: u64, h: u64) -> u64
     ensures { λ r. ⌜ ((r ≤ e) × (r ≤ h)) × ((r ≡ e) ⊎ (r ≡ h)) ⌝ }
@@ -156,6 +178,7 @@ pub fn least_of_two(
     requires { ⌜ (pen ≤ 1152921504606846976) × (base + levels ≤ 262144) ⌝ }
     requires { ⌜ ((j : ℕ) → j < levels → Sized (piece (now ws) f levels j)) ⌝ }
     requires { ⌜ ((j : ℕ) → j < levels → Sized (raised pen (piece (now ws) g levels j))) ⌝ }
+    requires { ⌜ ((j : ℕ) → j < levels → Yields (base + j) (piece (now ws) f levels j) (raised pen (piece (now ws) g levels j))) ⌝ }
     ensures { λ r. ⌜ Made (λ (j : ℕ). better (base + j) (piece (now (ws .entry)) f levels j) (raised pen (piece (now (ws .entry)) g levels j))) (now (ws .entry)) (now (ws .exit)) dst levels ⌝ }
 {
     let mut i: usize = 0;
@@ -171,7 +194,7 @@ pub fn least_of_two(
         let l = load(ws, to);
         let q = quadratic::raise(l, pen);
         let y = lesser(e, h);
-        n = least_on(ws, dst, n, p, q, x, y, base);
+        n = least_part(ws, dst, n, p, q, x, y, base);
         i = next(i, e, y);
         k = next(k, h, y);
         x = y + 1;

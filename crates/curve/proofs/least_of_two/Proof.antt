@@ -7,7 +7,7 @@ use Rattle.quadratic.specs.Quad.{Sized, better, raised}
 use Rattle.quadratic.specs.declared.Quad.{Quad}
 use Rattle.curve.specs.Lists.{emits-none, emits-then, emits-as, made}
 use Rattle.curve.specs.Pieces.{endOf, Emits, piece}
-use Rattle.curve.proofs.Laws.{Seen, seen, raised-same, better-same, small-raised, At, at-start}
+use Rattle.curve.proofs.Laws.{yields-same, Seen, seen, raised-same, better-same, small-raised, At, at-start}
 use Rattle.curve.proofs.least_of_two.Statement.{statement}
 use Rattle.curve.proofs.least_of_two.Tie as tie
 
@@ -48,7 +48,7 @@ ql : (c : tie.After-load2 Inv-loop μ-loop) → Sized (raised (c .before .before
 ql c =
     let t = c .before .before .before .before .before .before in
     subst (λ (q : Quad). Sized (raised (c .before .before .before .before .before .before .before .before .before .args .pen) q)) (sg t .is (t .before .loop .x) (omega arith) (sg t .from) ∙ sym (c .load2 .ensures))
-    (t .before .before .before .pre .1 .1 .1 (t .before .loop .x) (t .loop-test .taken))
+    (t .before .before .before .pre .1 .1 .1 .0 (t .before .loop .x) (t .loop-test .taken))
 
 qr : (c : tie.After-raise Inv-loop μ-loop) → Sized (c .raise .result)
 qr c = rw (c .raise .ensures) (ql (c .before))
@@ -89,8 +89,21 @@ raise-requires c κs = (small-raised (c .before .before .before .before .before 
 lesser-requires : tie.Need-lesser-requires Inv-loop μ-loop
 lesser-requires c κs = tt
 
-least-on-requires : tie.Need-least-on-requires Inv-loop μ-loop
-least-on-requires c κs = let s = c .before .before .before .before .before .before .before .before .before .before .before .before in let t = c .before .before .before .before .before .before .before .before .before in let y = ys (c .before) in (((qp (c .before .before .before .before .before), qr (c .before .before)), y .1 .1), ((c .before .before .before .before .before .before .before .before .before .before .loop .inv .1 .count (omega arith), y .0), omega (arith, y .1 .0, c .before .before .before .before .before .before .before .before .before .before .loop .inv .1 .kept .size, s .pre .0)))
+least-part-requires : tie.Need-least-part-requires Inv-loop μ-loop
+least-part-requires c κs =
+    let s = c .before .before .before .before .before .before .before .before .before .before .before .before in
+    let t = c .before .before .before .before .before .before .before .before .before in
+    let i = c .before .before .before .before .before .before .before .before .before .before .loop .inv in
+    let y = ys (c .before) in
+    let l = c .before .lesser in (
+      ((qp (c .before .before .before .before .before), qr (c .before .before)), y .1 .1),
+      (
+        ((i .1 .count (omega arith), y .0), omega (arith, y .1 .0, i .1 .kept .size, s .pre .0)),
+        λ j u v. yields-same _ (sf t .is j u (omega (arith, l .ensures .0)) ∙ sym (c .before .before .before .before .before .load .ensures))
+            (raised-same _ (sg t .is j u (omega (arith, l .ensures .0)) ∙ sym (c .before .before .before .load2 .ensures)) ∙ sym (c .before .before .raise .ensures))
+            (s .pre .1 .1 .1 .1 j (omega (arith, y .1 .0))),
+      ),
+    )
 
 next-requires : tie.Need-next-requires Inv-loop μ-loop
 next-requires c κs = omega (arith, sf (c .before .before .before .before .before .before .before .before .before .before .before .before) .index, c .before .before .before .before .before .before .before .before .before .before .before .before .before .before .before .pre .1 .0)
@@ -108,7 +121,7 @@ loop-again : tie.Need-loop-again Inv-loop μ-loop
 loop-again c = let s = c .before .before .before .before .before .before .before .before .before .before .before .before .before .before .before .before .before in let t = c .before .before .before .before .before .before .before .before .before .before .before .before .before .before in let y = ys (c .before .before .before .before .before .before) in let l = c .before .before .before .before .before .before .lesser in (
   (omega (arith, y .1 .0), (sf t .step (l .result) (c .before .next .result) (y .0) (l .ensures .0 .0) (c .before .next .ensures), sg t .step (l .result) (c .next2 .result) (y .0) (l .ensures .0 .1) (c .next2 .ensures))),
   emits-then (omega arith) (omega (arith, y .0)) (c .before .before .before .before .before .before .before .before .before .before .before .before .before .before .before .loop .inv .1)
-      (emits-as (λ j p q. sym (better-same _ (sf t .is j p (omega (arith, l .ensures .0)) ∙ sym (c .before .before .before .before .before .before .before .before .before .before .load .ensures)) (raised-same _ (sg t .is j p (omega (arith, l .ensures .0)) ∙ sym (c .before .before .before .before .before .before .before .before .load2 .ensures)) ∙ sym (c .before .before .before .before .before .before .before .raise .ensures)))) (c .before .before .before .before .least-on .ensures)),
+      (emits-as (λ j p q. sym (better-same _ (sf t .is j p (omega (arith, l .ensures .0)) ∙ sym (c .before .before .before .before .before .before .before .before .before .before .load .ensures)) (raised-same _ (sg t .is j p (omega (arith, l .ensures .0)) ∙ sym (c .before .before .before .before .before .before .before .before .load2 .ensures)) ∙ sym (c .before .before .before .before .before .before .before .raise .ensures)))) (c .before .before .before .before .least-part .ensures)),
 )
 
 same-length : tie.Need-same-length Inv-loop μ-loop
@@ -136,7 +149,7 @@ least-of-two-spec =
     load-requires-2
     raise-requires
     lesser-requires
-    least-on-requires
+    least-part-requires
     next-requires
     next-requires-2
     add-x

@@ -2,7 +2,7 @@
 use Prim.Native.Nat.{_+_, _-_}
 use native.Mathlib.Omega.{arith}
 use borrow.Author.Needs.{needs}
-use Rattle.curve.specs.Curve.{Limits, curve-reads, curve-sized, curve-raised}
+use Rattle.curve.specs.Curve.{Limits, curve-reads, curve-sized, curve-raised, curve-yields}
 use Rattle.layer.proofs.Moves.{lower-limits, joined}
 use Rattle.layer.proofs.take.Statement.{statement}
 use Rattle.layer.proofs.take.Tie as tie
@@ -16,7 +16,7 @@ least-of-two-requires c κs =
     let a = s .pre .1 .1 .0 in
     let g = s .pre .1 .1 .1 in (
       (curve-reads (s .args .t .next) a (h .acc-next), (curve-reads (s .args .t .next) g (h .g-next), h .room-next)),
-      ((omega (arith, s .pre .0 .1), l .high), (curve-sized l a, curve-raised (s .args .pen) e g)),
+      ((omega (arith, s .pre .0 .1), l .high), (curve-sized l a, (curve-raised (s .args .pen) e g, curve-yields (s .args .pen) (omega (arith, s .pre .0 .1)) l a g))),
     )
 
 same-length : tie.Need-same-length

@@ -1,8 +1,8 @@
 -- `curve_test::run::on_two`: once it is tested. Assumes nothing.
-use Rattle.curve_test.specs.Valid.{passed, within, with-penalty}
+use Rattle.curve_test.specs.Valid.{passed, within, with-penalty, sound}
 use native.Mathlib.Omega.{arith}
 use Prim.Native.Nat.{_%_}
-use Rattle.curve.specs.Curve.{curve-reads, curve-sized, curve-raised}
+use Rattle.curve.specs.Curve.{curve-reads, curve-sized, curve-raised, curve-yields}
 use borrow.Author.Needs.{needs}
 use Rattle.curve_test.proofs.run.on_two.Statement.{statement}
 use Rattle.curve_test.proofs.run.on_two.Tie as tie
@@ -53,7 +53,7 @@ returns-5 : tie.Need-returns-5
 returns-5 c = search needs
 
 least-of-two-requires : tie.Need-least-of-two-requires
-least-of-two-requires c κs = let v = c .before .before .before .before .before .before .before .before .before .before .before .before .valid .ensures (passed _ (c .before .before .before .before .before .before .before .before .before .before .before .if1 .left)) in let w = c .before .before .before .before .before .before .before .before .before .valid2 .ensures (passed _ (c .before .before .before .before .before .before .before .before .if2 .left)) in ((curve-reads (c .before .before .before .before .before .before .before .before .before .before .before .before .before .before .before .args .dst) (v .list) (c .before .before .before .before .before .before .before .apart .ensures (passed _ (c .before .before .before .before .before .before .if3 .left))), (curve-reads (c .before .before .before .before .before .before .before .before .before .before .before .before .before .before .before .args .dst) (w .list) (c .before .before .before .before .before .apart2 .ensures (passed _ (c .before .before .before .before .if4 .left))), c .before .before .room .ensures (passed _ (c .before .if5 .left)))), ((omega arith, v .limits .high), (curve-sized (within v) (v .list), curve-raised (c .before .before .before .before .before .before .before .before .before .before .before .before .before .before .before .args .pen % 1048576) (with-penalty v (c .before .before .before .before .before .before .before .before .before .before .before .before .before .before .before .args .pen % 1048576) (omega arith)) (w .list))))
+least-of-two-requires c κs = let v = c .before .before .before .before .before .before .before .before .before .before .before .before .valid .ensures (passed _ (c .before .before .before .before .before .before .before .before .before .before .before .if1 .left)) in let w = c .before .before .before .before .before .before .before .before .before .valid2 .ensures (passed _ (c .before .before .before .before .before .before .before .before .if2 .left)) in ((curve-reads (c .before .before .before .before .before .before .before .before .before .before .before .before .before .before .before .args .dst) (v .list) (c .before .before .before .before .before .before .before .apart .ensures (passed _ (c .before .before .before .before .before .before .if3 .left))), (curve-reads (c .before .before .before .before .before .before .before .before .before .before .before .before .before .before .before .args .dst) (w .list) (c .before .before .before .before .before .apart2 .ensures (passed _ (c .before .before .before .before .if4 .left))), c .before .before .room .ensures (passed _ (c .before .if5 .left)))), ((omega arith, v .limits .high), (curve-sized (within v) (v .list), (curve-raised (c .before .before .before .before .before .before .before .before .before .before .before .before .before .before .before .args .pen % 1048576) (with-penalty v (c .before .before .before .before .before .before .before .before .before .before .before .before .before .before .before .args .pen % 1048576) (omega arith)) (w .list), curve-yields (c .before .before .before .before .before .before .before .before .before .before .before .before .before .before .before .args .pen % 1048576) (omega arith) (v .limits) (sound v) (w .list)))))
 
 same-length-6 : tie.Need-same-length-6
 same-length-6 c = search needs
