@@ -101,6 +101,8 @@ pub record Dropped (T : List ℕ) (n t r : ℕ) : Type 0 where
   pub count : r ≤ n
   pub top : 0 < r → timeOf T (r - 1) ≤ t
 
+-- ---- steps of a walk
+
 -- the walk starts again from the top one of n entries, or where there is none from the first reading
 pub record Restarted (P : Plan) (zs : List ℤ) (n : ℕ) (T ws ws′ : List ℕ) (r : Walk) : Type 0 where
   pub at : At P zs r ws′
