@@ -1,6 +1,6 @@
 -- The stack of saved layers: its table, and what its entries hold. Assumes nothing.
-use mathlib.Core.Path.{_≡_, refl, sym, _∙_, ap, subst}
-use mathlib.Core.Logic.{⊎-elim}
+use mathlib.Core.Path.{_≡_, sym, _∙_, subst}
+use mathlib.Core.Logic.{inr, ⊎-elim}
 use mathlib.Core.List.{List}
 use Prim.Native.Nat.{ℕ, zero, suc, _+_, _-_, _*_, _/_, _%_, _≤_, _<_}
 use native.Mathlib.Omega.{arith}
@@ -20,9 +20,8 @@ use Rattle.curve.specs.Curve.{Curve, curve-same}
 use Rattle.layers.specs.Layer.{stepMost, baseOf, listAt, Layer}
 use Rattle.layers.specs.Next.{layerWords}
 use Rattle.layers.proofs.Next.{list-within}
-use Rattle.saved.specs.declared.Saved.{Saved}
-use Rattle.saved.specs.Packed.{Chain, Row, Packing, Unpacked}
-use Rattle.saved.specs.Walk.{stackAt, limit, Packed, Entry, Stack, timeOf, offOf, Empty, Pushed, Dropped}
+use Rattle.saved.specs.Packed.{Chain, Inside, Row, Packing, Unpacked}
+use Rattle.saved.specs.Walk.{stackAt, limit, Packed, Entry, Stack, timeOf, offOf, Pushed, Dropped}
 use Rattle.saved.proofs.Chains.{chain-low, chain-next, chain-part, chain-same}
 
 pub product-low : (x y : ℕ) → x ≤ 4096 → y ≤ 8192 → x * y ≤ 33554432
@@ -33,15 +32,13 @@ product-low x y h g = mul-le-mul h g
 set-old : (l : List ℕ) (i j x : ℕ) → (j ≡ i → ⊥) → getD (set l i x) j 0 ≡ getD l j 0
 set-old l i j x n = getD-set-other l i j x 0 n
 
-pub pushed : (s : Saved) (t e : ℕ) → s .count < 96 → length (s .time) ≡ 96 → length (s .off) ≡ 97 → Pushed s t e (record { count = s .count + 1; time = set (s .time) (s .count) t; off = set (s .off) (s .count + 1) e })
-pushed s t e h a b = record {
-  times = length-set (s .time) (s .count) t;
-  offs = length-set (s .off) (s .count + 1) e;
-  count = refl;
-  time = getD-set-same (s .time) (s .count) t 0 (omega arith);
-  off = getD-set-same (s .off) (s .count + 1) e 0 (omega arith);
-  old-time = λ i g. set-old (s .time) (s .count) i t (λ p. omega arith);
-  old-off = λ i g. set-old (s .off) (s .count + 1) i e (λ p. omega arith);
+pub pushed : (T : List ℕ) (n t e : ℕ) → length T ≡ 193 → n < 96 → Pushed T n t e (set (set T n t) (96 + (n + 1)) e)
+pushed T n t e z h = record {
+  size = length-set (set T n t) (96 + (n + 1)) e ∙ length-set T n t;
+  time = set-old (set T n t) (96 + (n + 1)) n e (λ p. omega arith) ∙ getD-set-same T n t 0 (omega arith);
+  off = getD-set-same (set T n t) (96 + (n + 1)) e 0 (omega (arith, length-set T n t));
+  old-time = λ i g. set-old (set T n t) (96 + (n + 1)) i e (λ p. omega arith) ∙ set-old T n i t (λ p. omega arith);
+  old-off = λ i g. set-old (set T n t) (96 + (n + 1)) (96 + i) e (λ p. omega arith) ∙ set-old T n (96 + i) t (λ p. omega arith);
 }
 
 -- ---- one layer
@@ -105,26 +102,25 @@ module _ {P : Plan} {zs : List ℤ} {t : ℕ} where
 
 -- ---- the stack
 
-module _ {P : Plan} {zs : List ℤ} {s : Saved} where
-  module _ {ws : List ℕ} (k : Stack P zs s ws) where
-    rises : (i : ℕ) → i < s .count → offOf s i ≤ offOf s (i + 1)
+module _ {P : Plan} {zs : List ℤ} {n : ℕ} {T : List ℕ} where
+  module _ {ws : List ℕ} (k : Stack P zs n T ws) where
+    rises : (i : ℕ) → i < n → offOf T i ≤ offOf T (i + 1)
     rises i h = chain-low (k .entry i h .packed .chain)
 
-    pub off-low : (i : ℕ) → i ≤ s .count → stackAt P ≤ offOf s i
+    pub off-low : (i : ℕ) → i ≤ n → stackAt P ≤ offOf T i
     off-low zero h = omega (arith, k .first)
     off-low (suc i) h = rw (← add-one i) (omega (arith, off-low i (omega arith), rises i (omega arith)))
 
-    off-top : (d i : ℕ) → i + d ≡ s .count → offOf s i ≤ offOf s (s .count)
-    off-top zero i h = let e : i ≡ s .count = omega arith in rw e (omega arith)
+    off-top : (d i : ℕ) → i + d ≡ n → offOf T i ≤ offOf T n
+    off-top zero i h = let e : i ≡ n = omega arith in rw e (omega arith)
     off-top (suc d) i h = omega (arith, rises i (omega arith), off-top d (i + 1) (omega arith))
 
-    pub off-high : (i : ℕ) → i ≤ s .count → offOf s i ≤ offOf s (s .count)
-    off-high i h = off-top (s .count - i) i (omega arith)
+    pub off-high : (i : ℕ) → i ≤ n → offOf T i ≤ offOf T n
+    off-high i h = off-top (n - i) i (omega arith)
 
-    pub stack-same : {ws′ : List ℕ} → length ws′ ≡ length ws → ((i : ℕ) → stackAt P ≤ i → i < offOf s (s .count) → getD ws′ i 0 ≡ getD ws i 0) → Stack P zs s ws′
+    pub stack-same : {ws′ : List ℕ} → length ws′ ≡ length ws → ((i : ℕ) → stackAt P ≤ i → i < offOf T n → getD ws′ i 0 ≡ getD ws i 0) → Stack P zs n T ws′
     stack-same z f = record {
-      times = k .times;
-      offs = k .offs;
+      size = k .size;
       few = k .few;
       first = k .first;
       top = k .top;
@@ -135,38 +131,41 @@ module _ {P : Plan} {zs : List ℤ} {s : Saved} where
       };
     }
 
-    pub stack-pushed : {t e : ℕ} {r : Saved} → s .count < 96 → Pushed s t e r → 1 ≤ t → t ≤ length zs → e ≤ limit P → Packed P zs t ws (offOf s (s .count)) e → Stack P zs r ws
-    stack-pushed {t} {e} {r} few p some most fits y = record {
-      times = p .times ∙ k .times;
-      offs = p .offs ∙ k .offs;
-      few = omega (arith, p .count);
+    -- what changes words below the stack only leaves it as it is
+    pub stack-kept : {ws′ : List ℕ} {m : ℕ} → m ≡ n → Inside 0 (stackAt P) ws ws′ → Stack P zs m T ws′
+    stack-kept {ws′} e i = subst (λ (x : ℕ). Stack P zs x T ws′) (sym e) (stack-same (i .size) (λ j u v. i .word j (inr u)))
+
+    pub stack-pushed : {t e : ℕ} {T′ : List ℕ} → n < 96 → Pushed T n t e T′ → 1 ≤ t → t ≤ length zs → e ≤ limit P → Packed P zs t ws (offOf T n) e → Stack P zs (n + 1) T′ ws
+    stack-pushed {t} {e} {T′} few p some most fits y = record {
+      size = p .size ∙ k .size;
+      few = omega arith;
       first = p .old-off 0 (omega arith) ∙ k .first;
-      top = rw (p .count, p .off) fits;
-      entry = λ i h. ⊎-elim (λ q. let w : s .count ≡ i = omega (arith, p .count) in subst (λ (x : ℕ). Entry P zs (timeOf r x) ws (offOf r x) (offOf r (x + 1))) w new) (λ q. old i q) (le-or-lt (s .count) i);
+      top = rw (p .off) fits;
+      entry = λ i h. ⊎-elim (λ q. let w : n ≡ i = omega arith in subst (λ (x : ℕ). Entry P zs (timeOf T′ x) ws (offOf T′ x) (offOf T′ (x + 1))) w new) (λ q. old i q) (le-or-lt n i);
     }
       where
-        new : Entry P zs (timeOf r (s .count)) ws (offOf r (s .count)) (offOf r (s .count + 1))
-        new = rw (p .time, p .old-off (s .count) (omega arith), p .off) (record { some = some; most = most; packed = y })
+        new : Entry P zs (timeOf T′ n) ws (offOf T′ n) (offOf T′ (n + 1))
+        new = rw (p .time, p .old-off n (omega arith), p .off) (record { some = some; most = most; packed = y })
 
-        old : (i : ℕ) → i < s .count → Entry P zs (timeOf r i) ws (offOf r i) (offOf r (i + 1))
+        old : (i : ℕ) → i < n → Entry P zs (timeOf T′ i) ws (offOf T′ i) (offOf T′ (i + 1))
         old i q = rw (p .old-time i q, p .old-off i (omega arith), p .old-off (i + 1) (omega arith)) (k .entry i q)
 
-    pub stack-dropped : {t : ℕ} {r : Saved} → Dropped s t r → Stack P zs r ws
+    pub stack-dropped : {t r : ℕ} → Dropped T n t r → Stack P zs r T ws
     stack-dropped {t} {r} d = record {
-      times = ap length (d .time) ∙ k .times;
-      offs = ap length (d .off) ∙ k .offs;
+      size = k .size;
       few = omega (arith, d .count, k .few);
-      first = rw (d .off) (k .first);
-      top = rw (d .off) (omega (arith, off-high (r .count) (d .count), k .top));
-      entry = λ i h. rw (d .time, d .off) (k .entry i (omega (arith, d .count)));
+      first = k .first;
+      top = omega (arith, off-high r (d .count), k .top);
+      entry = λ i h. k .entry i (omega (arith, d .count));
     }
 
-  pub stack-empty : {a : ℕ} (ws : List ℕ) → a ≡ stackAt P → stackAt P ≤ limit P → Empty a s → Stack P zs s ws
-  stack-empty ws e h m = record {
-    times = m .times;
-    offs = m .offs;
-    few = omega (arith, m .count);
-    first = m .off ∙ e;
-    top = rw (m .count) (omega (arith, m .off));
-    entry = λ i g. absurd (omega (arith, m .count));
-  }
+pub stack-empty : {P : Plan} {zs : List ℤ} (a : ℕ) (T ws : List ℕ) → length T ≡ 193 → a ≡ stackAt P → stackAt P ≤ limit P → Stack P zs 0 (set T 96 a) ws
+stack-empty a T ws z e h =
+    let q : getD (set T 96 a) 96 0 ≡ a = getD-set-same T 96 a 0 (omega arith) in
+    record {
+      size = length-set T 96 a ∙ z;
+      few = omega arith;
+      first = q ∙ e;
+      top = omega (arith, q);
+      entry = λ i g. absurd (omega arith);
+    }

@@ -13,7 +13,6 @@ use Rattle.curve.specs.Curve.{Curve}
 use Rattle.layers.specs.declared.Shape.{Shape}
 use Rattle.layers.specs.Layer.{stepMost, baseOf, Shape-small, Layer}
 use Rattle.layers.specs.Next.{Task, layerWords}
-use Rattle.saved.specs.declared.Saved.{Saved}
 use Rattle.saved.specs.declared.Walk.{Walk}
 use Rattle.saved.specs.Packed.{Chain, Inside, Row}
 
@@ -29,37 +28,36 @@ pub record Packed (P : Plan) (zs : List ℤ) (t : ℕ) (ws : List ℕ) (a e : �
   pub chain : Chain (width P) ws a (counts * P .states) e
   pub list : (k s m : ℕ) → k < counts → s < P .states → Chain (width P) ws a (k * P .states + s) m → Curve t (t * stepMost) (baseOf P) (width P) ws m (tableAt P zs t k s)
 
-abbrev pub timeOf : Saved → ℕ → ℕ
-timeOf s i = getD (s .time) i 0
+-- the table of saved layers: entry i is the layer after timeOf T i readings, packed from offOf T i up to offOf T (i + 1)
+abbrev pub timeOf : List ℕ → ℕ → ℕ
+timeOf T i = getD T i 0
 
-abbrev pub offOf : Saved → ℕ → ℕ
-offOf s i = getD (s .off) i 0
+abbrev pub offOf : List ℕ → ℕ → ℕ
+offOf T i = getD T (96 + i) 0
 
 pub record Entry (P : Plan) (zs : List ℤ) (t : ℕ) (ws : List ℕ) (a e : ℕ) : Type 0 where
   pub some : 1 ≤ t
   pub most : t ≤ length zs
   pub packed : Packed P zs t ws a e
 
--- the saved layers
-pub record Stack (P : Plan) (zs : List ℤ) (s : Saved) (ws : List ℕ) : Type 0 where
-  pub times : length (s .time) ≡ 96
-  pub offs : length (s .off) ≡ 97
-  pub few : s .count ≤ 96
-  pub first : offOf s 0 ≡ stackAt P
-  pub top : offOf s (s .count) ≤ limit P
-  pub entry : (i : ℕ) → i < s .count → Entry P zs (timeOf s i) ws (offOf s i) (offOf s (i + 1))
+-- the n saved layers of the table T
+pub record Stack (P : Plan) (zs : List ℤ) (n : ℕ) (T ws : List ℕ) : Type 0 where
+  pub size : length T ≡ 193
+  pub few : n ≤ 96
+  pub first : offOf T 0 ≡ stackAt P
+  pub top : offOf T n ≤ limit P
+  pub entry : (i : ℕ) → i < n → Entry P zs (timeOf T i) ws (offOf T i) (offOf T (i + 1))
 
 -- the two places of layers, one at hand and the other
 abbrev pub Places : Plan → ℕ → ℕ → Type 0
 Places P cur other = ((cur ≡ 0) × (other ≡ layerWords P)) ⊎ ((cur ≡ layerWords P) × (other ≡ 0))
 
--- the layer after w's time stands at its place, and the saved ones on the stack
+-- the layer after w's time stands at its place
 pub record At (P : Plan) (zs : List ℤ) (w : Walk) (ws : List ℕ) : Type 0 where
   pub some : 1 ≤ w .time
   pub most : w .time ≤ length zs
   pub places : Places P (w .cur) (w .other)
   pub layer : Layer P zs (w .time) ws (w .cur)
-  pub stack : Stack P zs (w .saved) ws
 
 -- a task with a reading, and the words that it needs
 pub record Workspace (P : Plan) (zs : List ℤ) (g : Shape) (ws : List ℕ) : Type 0 where
@@ -74,50 +72,52 @@ pub record Goes (P : Plan) (zs : List ℤ) (g : Shape) (w : Walk) (t : ℕ) (ws 
   pub from : w .time ≤ t
   pub most : t ≤ length zs
 
--- the walk is at t, and no word above the stack is changed
-pub record Walked (P : Plan) (zs : List ℤ) (t : ℕ) (ws ws′ : List ℕ) (r : Walk) : Type 0 where
+-- the walk is at t, over the layers saved in T′, and no word above the stack is changed
+pub record Walked (P : Plan) (zs : List ℤ) (t : ℕ) (T′ ws ws′ : List ℕ) (r : Walk) : Type 0 where
   pub at : At P zs r ws′
+  pub stack : Stack P zs (r .count) T′ ws′
   pub time : r .time ≡ t
   pub inside : Inside 0 (limit P) ws ws′
 
--- ---- the stack alone
-
-pub record Empty (first : ℕ) (r : Saved) : Type 0 where
-  pub times : length (r .time) ≡ 96
-  pub offs : length (r .off) ≡ 97
-  pub count : r .count ≡ 0
-  pub off : offOf r 0 ≡ first
-
--- one entry more
-pub record Pushed (s : Saved) (t e : ℕ) (r : Saved) : Type 0 where
-  pub times : length (r .time) ≡ length (s .time)
-  pub offs : length (r .off) ≡ length (s .off)
-  pub count : r .count ≡ s .count + 1
-  pub time : timeOf r (s .count) ≡ t
-  pub off : offOf r (s .count + 1) ≡ e
-  pub old-time : (i : ℕ) → i < s .count → timeOf r i ≡ timeOf s i
-  pub old-off : (i : ℕ) → i ≤ s .count → offOf r i ≡ offOf s i
-
--- the table is cut below the top entries that are later than t
-pub record Dropped (s : Saved) (t : ℕ) (r : Saved) : Type 0 where
-  pub time : r .time ≡ s .time
-  pub off : r .off ≡ s .off
-  pub count : r .count ≤ s .count
-  pub top : 0 < r .count → timeOf r (r .count - 1) ≤ t
-
--- the walk starts again from the top entry, or where there is none from the first reading
-pub record Restarted (P : Plan) (zs : List ℤ) (s : Saved) (ws ws′ : List ℕ) (r : Walk) : Type 0 where
+-- the walk is at t, and no word from the stack of n layers on is changed
+pub record Reached (P : Plan) (zs : List ℤ) (t n : ℕ) (ws ws′ : List ℕ) (r : Walk) : Type 0 where
   pub at : At P zs r ws′
-  pub first : s .count ≡ 0 → r .time ≡ 1
-  pub loaded : 0 < s .count → r .time ≡ timeOf s (s .count - 1)
-  pub inside : Inside 0 (limit P) ws ws′
+  pub count : r .count ≡ n
+  pub time : r .time ≡ t
+  pub inside : Inside 0 (stackAt P) ws ws′
+
+-- ---- the table alone
+
+-- one entry more after n of them
+pub record Pushed (T : List ℕ) (n t e : ℕ) (T′ : List ℕ) : Type 0 where
+  pub size : length T′ ≡ length T
+  pub time : timeOf T′ n ≡ t
+  pub off : offOf T′ (n + 1) ≡ e
+  pub old-time : (i : ℕ) → i < n → timeOf T′ i ≡ timeOf T i
+  pub old-off : (i : ℕ) → i ≤ n → offOf T′ i ≡ offOf T i
+
+-- of n entries r are left: those below the top ones that are later than t
+pub record Dropped (T : List ℕ) (n t r : ℕ) : Type 0 where
+  pub count : r ≤ n
+  pub top : 0 < r → timeOf T (r - 1) ≤ t
+
+-- ---- steps of a walk
+
+-- the walk starts again from the top one of n entries, or where there is none from the first reading
+pub record Restarted (P : Plan) (zs : List ℤ) (n : ℕ) (T ws ws′ : List ℕ) (r : Walk) : Type 0 where
+  pub at : At P zs r ws′
+  pub count : r .count ≡ n
+  pub first : n ≡ 0 → r .time ≡ 1
+  pub loaded : 0 < n → r .time ≡ timeOf T (n - 1)
+  pub inside : Inside 0 (stackAt P) ws ws′
 
 -- what is asked before the next stop is chosen
-pub record Stops (g : Shape) (w : Walk) (t : ℕ) (ws : List ℕ) : Type 0 where
+pub record Stops (g : Shape) (w : Walk) (t : ℕ) (T ws : List ℕ) : Type 0 where
   pub small : Shape-small g
   pub row : Row ws (w .cur) (counts * g .states) (g .levels)
   pub place : w .cur + counts * g .states * (4 * g .levels) ≤ 1048576
-  pub few : w .saved .count ≤ 96
-  pub top : offOf (w .saved) (w .saved .count) ≤ 48 * (g .states * g .levels)
+  pub size : length T ≡ 193
+  pub few : w .count ≤ 96
+  pub top : offOf T (w .count) ≤ 48 * (g .states * g .levels)
   pub before : w .time < t
   pub most : t ≤ 4096

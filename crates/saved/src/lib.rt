@@ -10,24 +10,21 @@ ghost use Prim.Native.Nat.{_+_, _*_, _≤_, _<_};
 ghost use lib.ListN.{length};
 ghost use Rattle.layers.specs.Layer.{Shape-small};
 ghost use Rattle.saved.specs.Packed.{Row, PackReady, Saves, UnpackReady, Unpacked};
-ghost use Rattle.saved.specs.Walk.{Workspace, At, Goes, Walked, Places, Stack, Pushed, Dropped, Restarted, Stops, Empty};
+ghost use Rattle.saved.specs.Walk.{Workspace, At, Goes, Walked, Reached, Places, Stack, Pushed, Dropped, Restarted, Stops};
 
 // The most layers that are saved.
 pub const SLOTS: usize = 96;
 
-// Entry i: the layer after time[i] readings, packed in the words from off[i] up to off[i + 1].
-pub struct Saved {
-    pub count: usize,
-    pub time: [usize; SLOTS],
-    pub off: [usize; SLOTS + 1],
-}
+// The numbers of the table of saved layers. Entry i: the layer after table[i] readings, packed in the words from table[SLOTS + i] up to
+// table[SLOTS + i + 1]. The table is lent from call to call and not handed on by value: at each step back that would copy all of it.
+pub const TABLE: usize = 2 * SLOTS + 1;
 
-// The layer after `time` readings stands at cur; other is where the other layer has its place.
+// The layer after `time` readings stands at cur; other is where the other layer has its place; count entries of the table are in use.
 pub struct Walk {
     pub time: usize,
     pub cur: usize,
     pub other: usize,
-    pub saved: Saved,
+    pub count: usize,
 }
 
 // Where packed lists end, or that there is no room for them.
@@ -148,60 +145,40 @@ fn free_slots(words: usize, free: usize, slots: usize) -> usize
 }
 
 // How far to go before the next layer is saved.
-fn next_stop(ws: &[u64], g: Shape, walk: Walk, t: usize) -> usize
-    requires { ⌜ Stops g walk t (now ws) ⌝ }
+fn next_stop(ws: &[u64], g: Shape, walk: Walk, table: &[usize], t: usize) -> usize
+    requires { ⌜ Stops g walk t (now table) (now ws) ⌝ }
     ensures { λ r. ⌜ (walk .time < r) × (r ≤ t) ⌝ }
 {
-    let saved = walk.saved;
-    let n = saved.count;
-    let off = saved.off;
-    let free = 48 * area(g) - off[n];
+    let n = walk.count;
+    let free = 48 * area(g) - table[SLOTS + n];
     let words = words_of(ws, walk.cur, labels::COUNTS * g.states, g.levels);
     let c = free_slots(words, free, SLOTS - n);
     next_save(walk.time, t, c)
 }
 
-// No layer saved; the stack begins at first.
-fn empty(first: usize) -> Saved
-    ensures { λ r. ⌜ Empty first r ⌝ }
+// The layer after t readings, packed up to e, as one entry more.
+fn push(table: &mut [usize], count: usize, t: usize, e: usize)
+    requires { ⌜ (length (now table) ≡ 193) × (count < 96) ⌝ }
+    ensures { λ r. ⌜ Pushed (now (table .entry)) count t e (now (table .exit)) ⌝ }
 {
-    Saved {
-        count: 0,
-        time: [0; SLOTS],
-        off: [first; SLOTS + 1],
-    }
+    table[count] = t;
+    let next = count + 1;
+    table[SLOTS + next] = e;
 }
 
-// The layer after t readings, packed up to e, on top.
-fn push(saved: Saved, t: usize, e: usize) -> Saved
-    requires { ⌜ (saved .count < 96) × ((length (saved .time) ≡ 96) × (length (saved .off) ≡ 97)) ⌝ }
-    ensures { λ r. ⌜ Pushed saved t e r ⌝ }
+// How many entries are left without those later than t on top.
+fn drop_after(table: &[usize], count: usize, t: usize) -> usize
+    requires { ⌜ (length (now table) ≡ 193) × (count ≤ 96) ⌝ }
+    ensures { λ r. ⌜ Dropped (now (table .entry)) count t r ⌝ }
 {
-    let n = saved.count;
-    let mut next = saved;
-    next.time[n] = t;
-    next.off[n + 1] = e;
-    next.count = n + 1;
-    next
-}
-
-// Without the entries later than t on top.
-fn drop_after(saved: Saved, t: usize) -> Saved
-    requires { ⌜ saved .count ≤ 96 ⌝ }
-    ensures { λ r. ⌜ Dropped saved t r ⌝ }
-{
-    let time = saved.time;
-    let mut next = saved;
-    let mut n = saved.count;
+    let mut n = count;
     while 0 < n {
-        if time[n - 1] <= t {
-            next.count = n;
-            return next;
+        if table[n - 1] <= t {
+            return n;
         }
         n -= 1;
     }
-    next.count = 0;
-    next
+    0
 }
 
 // From the top saved layer, or from the first reading where none is saved.
@@ -212,42 +189,41 @@ fn restart(
     g: Shape,
     cur: usize,
     other: usize,
-    saved: Saved,
+    table: &[usize],
+    count: usize,
 ) -> Walk
-    requires { ⌜ Workspace plan (now readings) g (now ws) × (Places plan cur other × Stack plan (now readings) saved (now ws)) ⌝ }
-    ensures { λ r. ⌜ Restarted plan (now (readings .entry)) saved (now (ws .entry)) (now (ws .exit)) r ⌝ }
+    requires { ⌜ Workspace plan (now readings) g (now ws) × (Places plan cur other × Stack plan (now readings) count (now table) (now ws)) ⌝ }
+    ensures { λ r. ⌜ Restarted plan (now (readings .entry)) count (now (table .entry)) (now (ws .entry)) (now (ws .exit)) r ⌝ }
 {
-    let n = saved.count;
-    if n == 0 {
+    if count == 0 {
         let free = 16 * area(g);
         layers::first_layer(ws, plan, readings, cur, free, g);
         return Walk {
             time: 1,
             cur,
             other,
-            saved,
+            count,
         };
     }
-    let times = saved.time;
-    let off = saved.off;
-    let time = times[n - 1];
-    let at = off[n - 1];
+    let top = count - 1;
+    let time = table[top];
+    let at = table[SLOTS + top];
     unpack(ws, at, cur, labels::COUNTS * g.states, g.levels);
     Walk {
         time,
         cur,
         other,
-        saved,
+        count,
     }
 }
 
 // Forward to x, with nothing saved on the way.
 fn forward(ws: &mut [u64], plan: Plan, readings: &[i16], g: Shape, walk: Walk, x: usize) -> Walk
     requires { ⌜ Goes plan (now readings) g walk x (now ws) ⌝ }
-    ensures { λ r. ⌜ Walked plan (now (readings .entry)) x (now (ws .entry)) (now (ws .exit)) r ⌝ }
+    ensures { λ r. ⌜ Reached plan (now (readings .entry)) x (walk .count) (now (ws .entry)) (now (ws .exit)) r ⌝ }
 {
     let free = 16 * area(g);
-    let saved = walk.saved;
+    let count = walk.count;
     let mut time = walk.time;
     let mut cur = walk.cur;
     let mut other = walk.other;
@@ -262,7 +238,7 @@ fn forward(ws: &mut [u64], plan: Plan, readings: &[i16], g: Shape, walk: Walk, x
         time,
         cur,
         other,
-        saved,
+        count,
     }
 }
 
@@ -273,69 +249,83 @@ fn go_on(
     readings: &[i16],
     g: Shape,
     walk: Walk,
+    table: &mut [usize],
     x: usize,
     t: usize,
 ) -> Walk
-    requires { ⌜ Goes plan (now readings) g walk x (now ws) ⌝ }
-    ensures { λ r. ⌜ Walked plan (now (readings .entry)) x (now (ws .entry)) (now (ws .exit)) r ⌝ }
+    requires { ⌜ Goes plan (now readings) g walk x (now ws) × Stack plan (now readings) (walk .count) (now table) (now ws) ⌝ }
+    ensures { λ r. ⌜ Walked plan (now (readings .entry)) x (now (table .exit)) (now (ws .entry)) (now (ws .exit)) r ⌝ }
 {
     let w = forward(ws, plan, readings, g, walk, x);
     if t <= x {
         return w;
     }
-    let saved = w.saved;
-    let n = saved.count;
+    let n = w.count;
     if SLOTS <= n {
         return w;
     }
-    let off = saved.off;
-    let at = off[n];
+    let at = table[SLOTS + n];
     let limit = 48 * area(g);
     let room = pack(ws, w.cur, at, limit, labels::COUNTS * g.states, g.levels);
     match room {
         Room::Full => w,
         Room::Upto(e) => {
-            let more = push(saved, w.time, e);
+            push(table, n, w.time, e);
             Walk {
                 time: w.time,
                 cur: w.cur,
                 other: w.other,
-                saved: more,
+                count: n + 1,
             }
         }
     }
 }
 
 // Forward to t, with layers saved on the way.
-pub fn advance(ws: &mut [u64], plan: Plan, readings: &[i16], g: Shape, walk: Walk, t: usize) -> Walk
-    requires { ⌜ Goes plan (now readings) g walk t (now ws) ⌝ }
-    ensures { λ r. ⌜ Walked plan (now (readings .entry)) t (now (ws .entry)) (now (ws .exit)) r ⌝ }
+pub fn advance(
+    ws: &mut [u64],
+    plan: Plan,
+    readings: &[i16],
+    g: Shape,
+    walk: Walk,
+    table: &mut [usize],
+    t: usize,
+) -> Walk
+    requires { ⌜ Goes plan (now readings) g walk t (now ws) × Stack plan (now readings) (walk .count) (now table) (now ws) ⌝ }
+    ensures { λ r. ⌜ Walked plan (now (readings .entry)) t (now (table .exit)) (now (ws .entry)) (now (ws .exit)) r ⌝ }
 {
     let mut w = walk;
     while w.time < t {
-        let x = next_stop(ws, g, w, t);
-        w = go_on(ws, plan, readings, g, w, x, t);
+        let x = next_stop(ws, g, w, table, t);
+        w = go_on(ws, plan, readings, g, w, table, x, t);
     }
     w
 }
 
 // The layer after the first reading, with nothing saved.
-pub fn begin(ws: &mut [u64], plan: Plan, readings: &[i16], g: Shape) -> Walk
-    requires { ⌜ Workspace plan (now readings) g (now ws) ⌝ }
-    ensures { λ r. ⌜ Walked plan (now (readings .entry)) 1 (now (ws .entry)) (now (ws .exit)) r ⌝ }
+pub fn begin(ws: &mut [u64], plan: Plan, readings: &[i16], g: Shape, table: &mut [usize]) -> Walk
+    requires { ⌜ Workspace plan (now readings) g (now ws) × (length (now table) ≡ 193) ⌝ }
+    ensures { λ r. ⌜ Walked plan (now (readings .entry)) 1 (now (table .exit)) (now (ws .entry)) (now (ws .exit)) r ⌝ }
 {
     let a = area(g);
-    let saved = empty(16 * a + 12 * (g.levels as usize));
-    restart(ws, plan, readings, g, 0, 8 * a, saved)
+    table[SLOTS] = 16 * a + 12 * (g.levels as usize);
+    restart(ws, plan, readings, g, 0, 8 * a, table, 0)
 }
 
 // Back to t: from the last layer saved that is not later, and forward again.
-pub fn rewind(ws: &mut [u64], plan: Plan, readings: &[i16], g: Shape, walk: Walk, t: usize) -> Walk
-    requires { ⌜ Workspace plan (now readings) g (now ws) × (At plan (now readings) walk (now ws) × ((1 ≤ t) × (t ≤ walk .time))) ⌝ }
-    ensures { λ r. ⌜ Walked plan (now (readings .entry)) t (now (ws .entry)) (now (ws .exit)) r ⌝ }
+pub fn rewind(
+    ws: &mut [u64],
+    plan: Plan,
+    readings: &[i16],
+    g: Shape,
+    walk: Walk,
+    table: &mut [usize],
+    t: usize,
+) -> Walk
+    requires { ⌜ Workspace plan (now readings) g (now ws) × (At plan (now readings) walk (now ws) × (Stack plan (now readings) (walk .count) (now table) (now ws) × ((1 ≤ t) × (t ≤ walk .time)))) ⌝ }
+    ensures { λ r. ⌜ Walked plan (now (readings .entry)) t (now (table .exit)) (now (ws .entry)) (now (ws .exit)) r ⌝ }
 {
-    let saved = walk.saved;
-    let kept = drop_after(saved, t);
-    let w = restart(ws, plan, readings, g, walk.cur, walk.other, kept);
-    advance(ws, plan, readings, g, w, t)
+    let kept = drop_after(table, walk.count, t);
+    let w = restart(ws, plan, readings, g, walk.cur, walk.other, table, kept);
+    advance(ws, plan, readings, g, w, table, t)
 }

@@ -70,7 +70,7 @@ module _ (P : Plan) (zs : List ℤ) (s : ℕ) (m : ℤ) {g : Shape} {ws : List �
     pub index-is : v - g .base ≡ above (P .lo) m
     index-is = omega (arith, place-is)
 
-    module _ {ws′ : List ℕ} {w : Walk} (walked : Walked P zs (length zs) ws ws′ w) where
+    module _ {T ws′ : List ℕ} {w : Walk} (walked : Walked P zs (length zs) T ws ws′ w) where
       layer-now : Layer P zs (length zs) ws′ (w .cur)
       layer-now = subst (λ (x : ℕ). Layer P zs x ws′ (w .cur)) (walked .time) (walked .at .layer)
 

@@ -89,7 +89,7 @@ task-of {P} {zs} {g} R e = record {
 five-over : (n : ℕ) → 5 * n / 5 ≡ n
 five-over n = omega arith
 
-module _ {P : Plan} {zs : List ℤ} {g : Shape} {ws : List ℕ} {out : List ℤ} (a : Solvable P zs g ws out) {ws′ : List ℕ} {w : Walk} (m : Walked P zs (length zs) ws ws′ w) where
+module _ {P : Plan} {zs : List ℤ} {g : Shape} {ws : List ℕ} {out : List ℤ} (a : Solvable P zs g ws out) {T ws′ : List ℕ} {w : Walk} (m : Walked P zs (length zs) T ws ws′ w) where
   abbrev task : Task P zs g
   task = a .space .task
 
@@ -125,10 +125,11 @@ module _ {P : Plan} {zs : List ℤ} {g : Shape} {ws : List ℕ} {out : List ℤ}
       end-cost : e .value ≡ last-table 0 (e .state) (e .level)
       end-cost = least-is ∙ sym (end-is P last-table (e .state) (e .level) low-now (end-now .met low ∙ least-is) .1)
 
-      pub way-ready : WayReady P zs g w from ws′ out
+      pub way-ready : WayReady P zs g w from T ws′ out
       way-ready = record {
         space = still-space (a .space) (m .inside);
         at = m .at;
+        stack = m .stack;
         time = m .time;
         here = record { count = omega arith; state = end-now .state low; level = end-now .level low; is = end-cost; some = low };
         last = refl;

@@ -17,7 +17,7 @@ use Rattle.layers.specs.Layer.{Layer}
 use Rattle.layers.specs.Next.{Task, layerWords}
 use Rattle.saved.specs.declared.Walk.{Walk}
 use Rattle.saved.specs.Packed.{Inside}
-use Rattle.saved.specs.Walk.{Workspace, At, Walked, Goes, Places, limit}
+use Rattle.saved.specs.Walk.{Workspace, At, Stack, Walked, Goes, Places, limit}
 use Rattle.saved.proofs.Chains.{inside-refl, inside-then}
 use Rattle.runs.specs.declared.Run.{Run}
 use Rattle.runs.specs.Runs.{Put, Reversed, Holds, holds-none, holds-put, holds-reversed, fiveOf}
@@ -31,11 +31,8 @@ use Rattle.search.specs.Way.{WayReady, WayTo, Finished}
 pub still-space : {P : Plan} {zs : List ℤ} {g : Shape} {ws ws′ : List ℕ} → Workspace P zs g ws → Inside 0 (limit P) ws ws′ → Workspace P zs g ws′
 still-space a i = record { task = a .task; some = a .some; room = omega (arith, a .room, i .size) }
 
-pub goes : {P : Plan} {zs : List ℤ} {g : Shape} {ws ws′ : List ℕ} {r : Walk} → Workspace P zs g ws → Walked P zs 1 ws ws′ r → Goes P zs g r (length zs) ws′
-goes a w = record { space = still-space a (w .inside); at = w .at; from = omega (arith, w .time, a .some); most = omega arith }
-
-pub walked-then : {P : Plan} {zs : List ℤ} {t u : ℕ} {ws ws′ ws″ : List ℕ} {q r : Walk} → Walked P zs t ws ws′ q → Walked P zs u ws′ ws″ r → Walked P zs u ws ws″ r
-walked-then a b = record { at = b .at; time = b .time; inside = inside-then (a .inside) (b .inside) }
+pub goes : {P : Plan} {zs : List ℤ} {g : Shape} {T ws ws′ : List ℕ} {r : Walk} → Workspace P zs g ws → Walked P zs 1 T ws ws′ r → Goes P zs g r (length zs) ws′ × Stack P zs (r .count) T ws′
+goes a w = (record { space = still-space a (w .inside); at = w .at; from = omega (arith, w .time, a .some); most = omega arith }, w .stack)
 
 -- ---- back
 
@@ -44,7 +41,7 @@ place-low {P} a at =
     let h : P .states * width P ≤ 8 * 1024 = mul-le-mul (a .checked .few-states) (a .checked .narrow) in
     ⊎-elim (λ x. omega (arith, x .0)) (λ x. omega (arith, x .0)) (at .places)
 
-module _ {P : Plan} {zs : List ℤ} {g : Shape} {w₀ : Walk} {p₀ : Point} {ws : List ℕ} {out : List ℤ} (a : WayReady P zs g w₀ p₀ ws out) where
+module _ {P : Plan} {zs : List ℤ} {g : Shape} {w₀ : Walk} {p₀ : Point} {T₀ ws : List ℕ} {out : List ℤ} (a : WayReady P zs g w₀ p₀ T₀ ws out) where
   pub way-none : (t : ℕ) → suc t ≡ length zs → WayTo P zs t p₀ p₀ ws ws out out
   way-none t e = record {
     here = subst (λ (x : ℕ). PointAt P zs x p₀) (sym e) (a .here);
@@ -59,10 +56,10 @@ module _ {P : Plan} {zs : List ℤ} {g : Shape} {w₀ : Walk} {p₀ : Point} {ws
   }
 
   module _ {t : ℕ} {p : Point} {ws′ : List ℕ} {out′ : List ℤ} (b : WayTo P zs t p₀ p ws ws′ out out′) (h : 0 < t) where
-    pub may-rewind : {w : Walk} → At P zs w ws′ → w .time ≡ suc t → Workspace P zs g ws′ × (At P zs w ws′ × ((1 ≤ t) × (t ≤ w .time)))
-    may-rewind at e = (still-space (a .space) (b .inside), (at, (h, omega arith)))
+    pub may-rewind : {w : Walk} {T : List ℕ} → At P zs w ws′ → Stack P zs (w .count) T ws′ → w .time ≡ suc t → Workspace P zs g ws′ × (At P zs w ws′ × (Stack P zs (w .count) T ws′ × ((1 ≤ t) × (t ≤ w .time))))
+    may-rewind at k e = (still-space (a .space) (b .inside), (at, (k, (h, omega arith))))
 
-    module _ {ws″ : List ℕ} {w : Walk} (m : Walked P zs t ws′ ws″ w) where
+    module _ {T ws″ : List ℕ} {w : Walk} (m : Walked P zs t T ws′ ws″ w) where
       pub may-step : StepReady P zs t (w .cur) g p ws″ out′
       may-step = record {
         task = a .space .task;

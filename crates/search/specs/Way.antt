@@ -10,14 +10,15 @@ use Rattle.model.specs.Runs.{walkBack}
 use Rattle.layers.specs.declared.Shape.{Shape}
 use Rattle.saved.specs.declared.Walk.{Walk}
 use Rattle.saved.specs.Packed.{Inside}
-use Rattle.saved.specs.Walk.{Workspace, At, limit}
+use Rattle.saved.specs.Walk.{Workspace, At, Stack, limit}
 use Rattle.runs.specs.Runs.{Holds}
 use Rattle.trace.specs.declared.Point.{Point}
 use Rattle.trace.specs.Trace.{PointAt, nodeAt}
 
-pub record WayReady (P : Plan) (zs : List ℤ) (g : Shape) (w : Walk) (p : Point) (ws : List ℕ) (out : List ℤ) : Type 0 where
+pub record WayReady (P : Plan) (zs : List ℤ) (g : Shape) (w : Walk) (p : Point) (T ws : List ℕ) (out : List ℤ) : Type 0 where
   pub space : Workspace P zs g ws
   pub at : At P zs w ws
+  pub stack : Stack P zs (w .count) T ws
   pub time : w .time ≡ length zs
   pub here : PointAt P zs (length zs) p
   pub last : p .last ≡ length zs

@@ -1,19 +1,20 @@
 -- `saved::forward`: at a time up to x. Assumes nothing.
+use mathlib.Core.Path.{refl}
 use Prim.Native.Nat.{_-_, _≤_}
 use native.Mathlib.Omega.{arith}
 use Rattle.layers.proofs.Next.{shape-small}
+use Rattle.saved.specs.Walk.{stackAt, At}
 use Rattle.saved.specs.Packed.{Inside}
-use Rattle.saved.specs.Walk.{limit, At}
-use Rattle.saved.proofs.Chains.{inside-refl, inside-then}
 use Rattle.saved.proofs.Walks.{space-then, step-ready, stepped-on}
+use Rattle.saved.proofs.Chains.{inside-refl, inside-then}
 use Rattle.saved.proofs.forward.Statement.{statement}
 use Rattle.saved.proofs.forward.Tie as tie
 
 abbrev Inv-loop : tie.InvT-loop
-Inv-loop ws₀ plan readings g x free saved time₀ cur₀ other₀ ws time cur other = (time ≤ x) × (At plan readings (record { time = time; cur = cur; other = other; saved = saved }) ws × Inside 0 (limit plan) ws₀ ws)
+Inv-loop ws₀ plan readings g x free count time₀ cur₀ other₀ ws time cur other = (time ≤ x) × (At plan readings (record { time = time; cur = cur; other = other; count = count }) ws × Inside 0 (stackAt plan) ws₀ ws)
 
 abbrev μ-loop : tie.MeasureT-loop
-μ-loop ws₀ plan readings g x free saved time₀ cur₀ other₀ ws time cur other = x - time
+μ-loop ws₀ plan readings g x free count time₀ cur₀ other₀ ws time cur other = x - time
 
 area-requires : tie.Need-area-requires Inv-loop μ-loop
 area-requires c κs = shape-small (c .before .pre .space .task)
@@ -22,26 +23,26 @@ mul-free : tie.Need-mul-free Inv-loop μ-loop
 mul-free c = omega (arith, c .area .ensures)
 
 loop-holds : tie.Need-loop-holds Inv-loop μ-loop
-loop-holds c = (c .before .before .before .pre .from, (c .before .before .before .pre .at, inside-refl _ _ _))
+loop-holds c = (c .before .before .pre .from, (c .before .before .pre .at, inside-refl _ _ _))
 
 next-layer-requires : tie.Need-next-layer-requires Inv-loop μ-loop
-next-layer-requires c κs = step-ready (space-then (c .before .before .before .before .before .before .pre .space) (c .before .before .loop .inv .1 .1 .size)) (c .before .before .loop .inv .1 .0) (c .before .before .before .before .area .ensures .0) (omega (arith, c .before .loop-test .taken, c .before .before .before .before .before .before .pre .most))
+next-layer-requires c κs = step-ready (space-then (c .before .before .before .before .before .pre .space) (c .before .before .loop .inv .1 .1 .size)) (c .before .before .loop .inv .1 .0) (c .before .before .before .area .ensures .0) (omega (arith, c .before .loop-test .taken, c .before .before .before .before .before .pre .most))
 
 add-time : tie.Need-add-time Inv-loop μ-loop
-add-time c = omega (arith, c .before .before .before .before .loop-test .taken, c .before .before .before .before .before .before .before .before .before .pre .most, c .before .before .before .before .before .before .before .before .before .pre .space .task .most)
+add-time c = omega (arith, c .before .before .before .before .loop-test .taken, c .before .before .before .before .before .before .before .before .pre .most, c .before .before .before .before .before .before .before .before .pre .space .task .most)
 
 loop-less : tie.Need-loop-less Inv-loop μ-loop
 loop-less c = omega (arith, c .before .before .before .before .loop-test .taken)
 
 loop-again : tie.Need-loop-again Inv-loop μ-loop
-loop-again c = let s = stepped-on (space-then (c .before .before .before .before .before .before .before .before .before .pre .space) (c .before .before .before .before .before .loop .inv .1 .1 .size)) (c .before .before .before .before .before .loop .inv .1 .0) (c .before .before .before .before .before .before .before .area .ensures .0) (omega (arith, c .before .before .before .before .loop-test .taken, c .before .before .before .before .before .before .before .before .before .pre .most)) (c .before .before .next-layer .ensures) in
+loop-again c = let s = stepped-on (space-then (c .before .before .before .before .before .before .before .before .pre .space) (c .before .before .before .before .before .loop .inv .1 .1 .size)) (c .before .before .before .before .before .loop .inv .1 .0) (c .before .before .before .before .before .before .area .ensures .0) (omega (arith, c .before .before .before .before .loop-test .taken, c .before .before .before .before .before .before .before .before .pre .most)) (c .before .before .next-layer .ensures) in
     (omega (arith, c .before .before .before .before .loop-test .taken), (s .at, inside-then (c .before .before .before .before .before .loop .inv .1 .1) (s .inside)))
 
 same-length : tie.Need-same-length Inv-loop μ-loop
 same-length c = c .before .loop .inv .1 .1 .size
 
 returns : tie.Need-returns Inv-loop μ-loop
-returns c = record { at = c .before .loop .inv .1 .0; time = omega (arith, c .loop-test .left, c .before .loop .inv .0); inside = c .before .loop .inv .1 .1 }
+returns c = record { at = c .before .loop .inv .1 .0; count = refl; time = omega (arith, c .loop-test .left, c .before .loop .inv .0); inside = c .before .loop .inv .1 .1 }
 
 pub forward-spec : {M : Type 1} → statement M
 forward-spec =

@@ -1,8 +1,7 @@
 -- `saved::go_on`: packed above the stack, a layer is one entry more; without room all is as it was. Assumes nothing.
 use native.Mathlib.Omega.{arith}
 use borrow.Author.Needs.{needs}
-use Rattle.saved.proofs.Chains.{inside-then}
-use Rattle.saved.proofs.Walks.{space-then, pack-ready, saves-inside, still-at, pushed-at}
+use Rattle.saved.proofs.Walks.{space-then, reached-walked, pack-ready, full-walked, pushed-walked, walked-then}
 use Rattle.saved.proofs.go_on.Statement.{statement}
 use Rattle.saved.proofs.go_on.Tie as tie
 
@@ -13,19 +12,22 @@ same-length : tie.Need-same-length
 same-length c = search needs
 
 returns : tie.Need-returns
-returns c = search needs
+returns c = reached-walked (c .before .before .before .before .before .before .before .pre .0 .space) (c .before .before .before .before .before .before .before .pre .1) (c .before .before .before .forward .ensures)
 
 same-length-2 : tie.Need-same-length-2
 same-length-2 c = search needs
 
 returns-2 : tie.Need-returns-2
-returns-2 c = search needs
+returns-2 c = reached-walked (c .before .before .before .before .before .before .before .before .pre .0 .space) (c .before .before .before .before .before .before .before .before .pre .1) (c .before .before .before .before .forward .ensures)
+
+add-at : tie.Need-add-at
+add-at c = search needs
 
 mul-at : tie.Need-mul-at
 mul-at c = search needs
 
-array-read-at : tie.Need-array-read-at
-array-read-at c = search needs
+slice-read-at : tie.Need-slice-read-at
+slice-read-at c = search needs
 
 area-requires : tie.Need-area-requires
 area-requires c κs = search needs
@@ -37,7 +39,8 @@ mul-pack : tie.Need-mul-pack
 mul-pack c = search needs
 
 pack-requires : tie.Need-pack-requires
-pack-requires c κs = pack-ready (space-then (c .before .before .before .before .before .before .before .before .before .before .before .before .pre .space) (c .before .before .before .before .before .before .before .before .before .forward .ensures .inside .size)) (c .before .before .before .before .before .before .before .before .before .forward .ensures .at) (c .before .before .area .ensures .0)
+pack-requires c κs = let m = reached-walked (c .before .before .before .before .before .before .before .before .before .before .before .before .pre .0 .space) (c .before .before .before .before .before .before .before .before .before .before .before .before .pre .1) (c .before .before .before .before .before .before .before .before .forward .ensures) in
+    pack-ready (space-then (c .before .before .before .before .before .before .before .before .before .before .before .before .pre .0 .space) (m .inside .size)) (m .at) (m .stack) (c .before .before .area .ensures .0)
 
 enum-told : tie.Need-enum-told
 enum-told c = search needs
@@ -48,27 +51,25 @@ enum-known-room c = search needs
 push-requires : tie.Need-push-requires
 push-requires c κs = search needs
 
+add-t28 : tie.Need-add-t28
+add-t28 c = search needs
+
 same-length-3 : tie.Need-same-length-3
 same-length-3 c = search needs
 
 returns-3 : tie.Need-returns-3
-returns-3 c = let a = space-then (c .before .before .before .before .before .before .before .before .before .before .before .before .before .before .before .before .before .pre .space) (c .before .before .before .before .before .before .before .before .before .before .before .before .before .before .forward .ensures .inside .size) in
-    record {
-      at = still-at a (c .before .before .before .before .before .before .before .before .before .before .before .before .before .before .forward .ensures .at) (c .before .before .before .before .before .before .before .area .ensures .0) (c .before .before .before .before .pack .ensures);
-      time = c .before .before .before .before .before .before .before .before .before .before .before .before .before .before .forward .ensures .time;
-      inside = inside-then (c .before .before .before .before .before .before .before .before .before .before .before .before .before .before .forward .ensures .inside) (saves-inside a (c .before .before .before .before .before .before .before .before .before .before .before .before .before .before .forward .ensures .at) (c .before .before .before .before .before .before .before .area .ensures .0) (c .before .before .before .before .pack .ensures));
-    }
+returns-3 c = let m = reached-walked (c .before .before .before .before .before .before .before .before .before .before .before .before .before .before .before .before .before .pre .0 .space) (c .before .before .before .before .before .before .before .before .before .before .before .before .before .before .before .before .before .pre .1) (c .before .before .before .before .before .before .before .before .before .before .before .before .before .forward .ensures) in
+    walked-then m (full-walked (space-then (c .before .before .before .before .before .before .before .before .before .before .before .before .before .before .before .before .before .pre .0 .space) (m .inside .size)) (m .at) (m .stack) (c .before .before .before .before .before .before .before .area .ensures .0) (c .before .before .before .before .pack .ensures) (m .time))
 
 same-length-4 : tie.Need-same-length-4
 same-length-4 c = search needs
 
+same-length-5 : tie.Need-same-length-5
+same-length-5 c = search needs
+
 returns-4 : tie.Need-returns-4
-returns-4 c = let a = space-then (c .before .before .before .before .before .before .before .before .before .before .before .before .before .before .before .before .before .before .before .pre .space) (c .before .before .before .before .before .before .before .before .before .before .before .before .before .before .before .before .forward .ensures .inside .size) in
-    record {
-      at = pushed-at a (c .before .before .before .before .before .before .before .before .before .before .before .before .before .before .before .before .forward .ensures .at) (c .before .before .before .before .before .before .before .before .before .area .ensures .0) (c .before .before .before .before .before .before .pack .ensures) (c .before .before .room .given .1) (omega (arith, c .before .before .before .before .before .before .before .before .before .before .before .if2 .left)) (c .push .ensures);
-      time = c .before .before .before .before .before .before .before .before .before .before .before .before .before .before .before .before .forward .ensures .time;
-      inside = inside-then (c .before .before .before .before .before .before .before .before .before .before .before .before .before .before .before .before .forward .ensures .inside) (saves-inside a (c .before .before .before .before .before .before .before .before .before .before .before .before .before .before .before .before .forward .ensures .at) (c .before .before .before .before .before .before .before .before .before .area .ensures .0) (c .before .before .before .before .before .before .pack .ensures));
-    }
+returns-4 c = let m = reached-walked (c .before .before .before .before .before .before .before .before .before .before .before .before .before .before .before .before .before .before .before .before .before .before .pre .0 .space) (c .before .before .before .before .before .before .before .before .before .before .before .before .before .before .before .before .before .before .before .before .before .before .pre .1) (c .before .before .before .before .before .before .before .before .before .before .before .before .before .before .before .before .before .before .forward .ensures) in
+    walked-then m (pushed-walked (space-then (c .before .before .before .before .before .before .before .before .before .before .before .before .before .before .before .before .before .before .before .before .before .before .pre .0 .space) (m .inside .size)) (m .at) (m .stack) (c .before .before .before .before .before .before .before .before .before .before .before .before .area .ensures .0) (c .before .before .before .before .before .before .before .before .before .pack .ensures) (m .time) (c .before .before .before .before .before .room .given .1) (omega (arith, c .before .before .before .before .before .before .before .before .before .before .before .before .before .before .if2 .left)) (c .before .before .push .ensures))
 
 pub go-on-spec : {M : Type 1} → statement M
 go-on-spec =
@@ -79,8 +80,9 @@ go-on-spec =
     returns
     same-length-2
     returns-2
+    add-at
     mul-at
-    array-read-at
+    slice-read-at
     area-requires
     mul-limit
     mul-pack
@@ -88,7 +90,9 @@ go-on-spec =
     enum-told
     enum-known-room
     push-requires
+    add-t28
     same-length-3
     returns-3
     same-length-4
+    same-length-5
     returns-4)

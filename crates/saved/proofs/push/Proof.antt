@@ -1,38 +1,44 @@
 -- `saved::push`: one entry more. Assumes nothing.
+use native.Mathlib.Omega.{arith}
 use borrow.Author.Needs.{needs}
+use lib.ListN.{length-set}
 use Rattle.saved.proofs.Stacks.{pushed}
 use Rattle.saved.proofs.push.Statement.{statement}
 use Rattle.saved.proofs.push.Tie as tie
 
-mul-next : tie.Need-mul-next
-mul-next c = search needs
+mul-table : tie.Need-mul-table
+mul-table c = search needs
 
-element-write-next : tie.Need-element-write-next
-element-write-next c = search needs
+slice-write-table : tie.Need-slice-write-table
+slice-write-table c = search needs
 
 add-next : tie.Need-add-next
 add-next c = search needs
 
-mul-next-2 : tie.Need-mul-next-2
-mul-next-2 c = search needs
+add-table : tie.Need-add-table
+add-table c = search needs
 
-element-write-next-2 : tie.Need-element-write-next-2
-element-write-next-2 c = search needs
+mul-table-2 : tie.Need-mul-table-2
+mul-table-2 c = search needs
 
-add-next-2 : tie.Need-add-next-2
-add-next-2 c = search needs
+slice-write-table-2 : tie.Need-slice-write-table-2
+slice-write-table-2 c = omega (arith, c .pre, length-set (c .args .table .now) (c .args .count) (c .args .t))
+
+same-length : tie.Need-same-length
+same-length c = search needs
 
 returns : tie.Need-returns
-returns c = pushed (c .args .saved) (c .args .t) (c .args .e) (c .pre .0) (c .pre .1 .0) (c .pre .1 .1)
+returns c = pushed (c .args .table .now) (c .args .count) (c .args .t) (c .args .e) (c .pre .0) (c .pre .1)
 
 pub push-spec : {M : Type 1} → statement M
 push-spec =
     tie.close
     (tie.spec
-    mul-next
-    element-write-next
+    mul-table
+    slice-write-table
     add-next
-    mul-next-2
-    element-write-next-2
-    add-next-2
+    add-table
+    mul-table-2
+    slice-write-table-2
+    same-length
     returns)

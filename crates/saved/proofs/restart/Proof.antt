@@ -12,43 +12,43 @@ mul-free : tie.Need-mul-free
 mul-free c = search needs
 
 first-layer-requires : tie.Need-first-layer-requires
-first-layer-requires c κs = start-ready (c .before .before .before .before .pre .0) (c .before .before .before .before .pre .1 .0) (c .before .area .ensures .0)
+first-layer-requires c κs = start-ready (c .before .before .before .before .before .pre .0) (c .before .before .before .before .before .pre .1 .0) (c .before .area .ensures .0)
 
 same-length : tie.Need-same-length
 same-length c = search needs
 
 returns : tie.Need-returns
-returns c = restarted-first (c .before .before .before .before .before .before .before .pre .0) (c .before .before .before .before .before .before .before .pre .1 .0) (c .before .before .before .before .before .before .before .pre .1 .1) (c .before .before .before .before .area .ensures .0) (c .before .before .before .before .before .if1 .taken) (c .before .before .first-layer .ensures)
+returns c = restarted-first (c .before .before .before .before .before .before .before .before .pre .0) (c .before .before .before .before .before .before .before .before .pre .1 .0) (c .before .before .before .before .area .ensures .0) (c .before .before .before .before .before .if1 .taken) (c .before .before .first-layer .ensures)
 
-sub-time : tie.Need-sub-time
-sub-time c = search needs
+sub-top : tie.Need-sub-top
+sub-top c = search needs
 
 mul-time : tie.Need-mul-time
 mul-time c = search needs
 
-array-read-time : tie.Need-array-read-time
-array-read-time c = search needs
+shared-slice-read-time : tie.Need-shared-slice-read-time
+shared-slice-read-time c = search needs
 
-sub-at : tie.Need-sub-at
-sub-at c = search needs
+add-at : tie.Need-add-at
+add-at c = search needs
 
 mul-at : tie.Need-mul-at
 mul-at c = search needs
 
-array-read-at : tie.Need-array-read-at
-array-read-at c = search needs
+shared-slice-read-at : tie.Need-shared-slice-read-at
+shared-slice-read-at c = search needs
 
 mul-unpack : tie.Need-mul-unpack
 mul-unpack c = search needs
 
 unpack-requires : tie.Need-unpack-requires
-unpack-requires c κs = unpack-ready (c .before .before .before .before .before .before .pre .0) (c .before .before .before .before .before .before .pre .1 .0) (c .before .before .before .before .before .before .pre .1 .1) (omega (arith, c .before .before .before .before .if1 .left))
+unpack-requires c κs = unpack-ready (c .before .before .before .before .before .before .before .pre .0) (c .before .before .before .before .before .before .before .pre .1 .0) (c .before .before .before .before .before .before .before .pre .1 .1) (omega (arith, c .before .before .before .before .if1 .left))
 
 same-length-2 : tie.Need-same-length-2
 same-length-2 c = search needs
 
 returns-2 : tie.Need-returns-2
-returns-2 c = restarted-top (c .before .before .before .before .before .before .before .before .before .pre .0) (c .before .before .before .before .before .before .before .before .before .pre .1 .0) (c .before .before .before .before .before .before .before .before .before .pre .1 .1) (omega (arith, c .before .before .before .before .before .before .before .if1 .left)) (c .before .before .unpack .ensures)
+returns-2 c = restarted-top (c .before .before .before .before .before .before .before .before .before .before .pre .0) (c .before .before .before .before .before .before .before .before .before .before .pre .1 .0) (c .before .before .before .before .before .before .before .before .before .before .pre .1 .1) (omega (arith, c .before .before .before .before .before .before .before .if1 .left)) (c .before .before .unpack .ensures)
 
 pub restart-spec : {M : Type 1} → statement M
 restart-spec =
@@ -59,12 +59,12 @@ restart-spec =
     first-layer-requires
     same-length
     returns
-    sub-time
+    sub-top
     mul-time
-    array-read-time
-    sub-at
+    shared-slice-read-time
+    add-at
     mul-at
-    array-read-at
+    shared-slice-read-at
     mul-unpack
     unpack-requires
     same-length-2

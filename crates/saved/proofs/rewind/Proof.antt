@@ -1,9 +1,9 @@
 -- `saved::rewind`: from an entry no later than t, forward to t. Assumes nothing.
+use mathlib.Core.Path.{refl}
 use native.Mathlib.Omega.{arith}
 use borrow.Author.Needs.{needs}
-use Rattle.saved.proofs.Chains.{inside-then}
+use Rattle.saved.proofs.Walks.{space-then, starts-early, restarted-walked, walked-then}
 use Rattle.saved.proofs.Stacks.{stack-dropped}
-use Rattle.saved.proofs.Walks.{space-then, starts-early}
 use Rattle.saved.proofs.rewind.Statement.{statement}
 use Rattle.saved.proofs.rewind.Tie as tie
 
@@ -11,17 +11,35 @@ drop-after-requires : tie.Need-drop-after-requires
 drop-after-requires c κs = search needs
 
 restart-requires : tie.Need-restart-requires
-restart-requires c κs = (c .before .before .before .before .pre .0, (c .before .before .before .before .pre .1 .0 .places, stack-dropped (c .before .before .before .before .pre .1 .0 .stack) (c .before .drop-after .ensures)))
+restart-requires c κs = (c .before .before .before .before .before .before .pre .0, (c .before .before .before .before .before .before .pre .1 .0 .places, stack-dropped (c .before .before .before .before .before .before .pre .1 .1 .0) (c .before .before .drop-after .ensures)))
 
 advance-requires : tie.Need-advance-requires
-advance-requires c κs = record { space = space-then (c .before .before .before .before .before .before .before .before .pre .0) (c .before .before .before .restart .ensures .inside .size); at = c .before .before .before .restart .ensures .at; from = starts-early (c .before .before .before .before .before .drop-after .ensures) (c .before .before .before .restart .ensures) (c .before .before .before .before .before .before .before .before .pre .1 .1 .0); most = omega (arith, c .before .before .before .before .before .before .before .before .pre .1 .1 .1, c .before .before .before .before .before .before .before .before .pre .1 .0 .most) }
+advance-requires c κs = let m = restarted-walked (c .before .before .before .before .before .before .before .before .before .before .before .pre .0) (stack-dropped (c .before .before .before .before .before .before .before .before .before .before .before .pre .1 .1 .0) (c .before .before .before .before .before .before .before .drop-after .ensures)) (c .before .before .before .before .restart .ensures) refl in (
+  record {
+    space = space-then (c .before .before .before .before .before .before .before .before .before .before .before .pre .0) (m .inside .size);
+    at = m .at;
+    from = starts-early (c .before .before .before .before .before .before .before .drop-after .ensures) (c .before .before .before .before .restart .ensures) (c .before .before .before .before .before .before .before .before .before .before .before .pre .1 .1 .1 .0);
+    most = omega (arith, c .before .before .before .before .before .before .before .before .before .before .before .pre .1 .1 .1 .1, c .before .before .before .before .before .before .before .before .before .before .before .pre .1 .0 .most);
+  },
+  m .stack,
+)
 
 same-length : tie.Need-same-length
 same-length c = search needs
 
+same-length-2 : tie.Need-same-length-2
+same-length-2 c = search needs
+
 returns : tie.Need-returns
-returns c = record { at = c .before .before .advance .ensures .at; time = c .before .before .advance .ensures .time; inside = inside-then (c .before .before .before .before .before .before .restart .ensures .inside) (c .before .before .advance .ensures .inside) }
+returns c = walked-then (restarted-walked (c .before .before .before .before .before .before .before .before .before .before .before .before .before .before .before .before .pre .0) (stack-dropped (c .before .before .before .before .before .before .before .before .before .before .before .before .before .before .before .before .pre .1 .1 .0) (c .before .before .before .before .before .before .before .before .before .before .before .before .drop-after .ensures)) (c .before .before .before .before .before .before .before .before .before .restart .ensures) refl) (c .before .before .before .before .advance .ensures)
 
 pub rewind-spec : {M : Type 1} → statement M
 rewind-spec =
-    tie.close (tie.spec drop-after-requires restart-requires advance-requires same-length returns)
+    tie.close
+    (tie.spec
+    drop-after-requires
+    restart-requires
+    advance-requires
+    same-length
+    same-length-2
+    returns)

@@ -1,61 +1,49 @@
-use Rattle.search.proofs.Ways.{way-none, may-rewind, may-step, way-more, way-end}
-use lib.ListN.{length}
-use Rattle.search.specs.Way.{WayTo}
-use Rattle.saved.specs.Walk.{At}
-use Prim.Native.Nat.{ℕ, suc, _+_, _-_, _*_, _≤_, _<_}
+-- `search::way_back`: the runs written so far, and what is left of the way. Assumes nothing.
+use mathlib.Core.Path.{_≡_, _∙_, sym}
+use Prim.Native.Nat.{suc}
 use native.Mathlib.Omega.{arith}
-use mathlib.Core.Path.{_≡_, _∙_, sym, refl, ap}
-use borrow.Author.Needs.{needs}
+use Rattle.saved.specs.Walk.{At, Stack}
+use Rattle.search.specs.Way.{WayTo}
+use Rattle.search.proofs.Ways.{way-none, may-rewind, may-step, way-more, way-end}
 use Rattle.search.proofs.way_back.Statement.{statement}
 use Rattle.search.proofs.way_back.Tie as tie
-use Rattle.search.proofs.way_back.Reads as reads
-use Rattle.search.proofs.way_back.Lts as lts
-use Rattle.saved.proofs.rewind.Reads as rewind-reads
-use Rattle.trace.proofs.step.Reads as step-reads
 
 abbrev Inv-loop : tie.InvT-loop
-Inv-loop ws₀ plan readings g out₀ w₀ p₀ t₀ ws out w p t = (At plan readings w ws × (w .time ≡ suc t)) × WayTo plan readings t p₀ p ws₀ ws out₀ out
+Inv-loop ws₀ plan readings g table₀ out₀ w₀ p₀ t₀ ws table out w p t = (At plan readings w ws × (Stack plan readings (w .count) table ws × (w .time ≡ suc t))) × WayTo plan readings t p₀ p ws₀ ws out₀ out
 
 abbrev μ-loop : tie.MeasureT-loop
-μ-loop ws₀ plan readings g out₀ w₀ p₀ t₀ ws out w p t = t
+μ-loop ws₀ plan readings g table₀ out₀ w₀ p₀ t₀ ws table out w p t = t
 
--- src/lib.rt:73:17
 sub-t : tie.Need-sub-t Inv-loop μ-loop
-sub-t c = c .before .pre .space .some
+sub-t c = c .before .before .pre .space .some
 
--- src/lib.rt:74:5
 loop-holds : tie.Need-loop-holds Inv-loop μ-loop
-loop-holds c = ((c .before .pre .at, c .before .pre .time ∙ omega (arith, c .before .pre .space .some)), way-none (c .before .pre) _ (omega (arith, c .before .pre .space .some)))
+loop-holds c = ((c .before .before .pre .at, (c .before .before .pre .stack, c .before .before .pre .time ∙ omega (arith, c .before .before .pre .space .some))), way-none (c .before .before .pre) _ (omega (arith, c .before .before .pre .space .some)))
 
--- src/lib.rt:75:9
 rewind-requires : tie.Need-rewind-requires Inv-loop μ-loop
-rewind-requires c κs = may-rewind (c .before .before .before .before .pre) (c .before .before .loop .inv .1) (c .before .loop-test .taken) (c .before .before .loop .inv .0 .0) (c .before .before .loop .inv .0 .1)
+rewind-requires c κs = may-rewind (c .before .before .before .before .before .before .pre) (c .before .before .before .loop .inv .1) (c .before .before .loop-test .taken) (c .before .before .before .loop .inv .0 .0) (c .before .before .before .loop .inv .0 .1 .0) (c .before .before .before .loop .inv .0 .1 .1)
 
--- src/lib.rt:77:9
 step-requires : tie.Need-step-requires Inv-loop μ-loop
-step-requires c κs = may-step (c .before .before .before .before .before .before .before .before .before .pre) (c .before .before .before .before .before .before .before .loop .inv .1) (c .before .before .before .before .before .before .loop-test .taken) (c .before .before .before .before .rewind .ensures)
+step-requires c κs = may-step (c .before .before .before .before .before .before .before .before .before .before .before .before .before .pre) (c .before .before .before .before .before .before .before .before .before .before .loop .inv .1) (c .before .before .before .before .before .before .before .before .before .loop-test .taken) (c .before .before .before .before .before .before .rewind .ensures)
 
--- src/lib.rt:78:9
 sub-t-2 : tie.Need-sub-t-2 Inv-loop μ-loop
-sub-t-2 c = omega (arith, c .before .before .before .before .before .before .before .before .loop-test .taken)
+sub-t-2 c = omega (arith, c .before .before .before .before .before .before .before .before .before .before .before .loop-test .taken)
 
--- src/lib.rt:74:5
 loop-less : tie.Need-loop-less Inv-loop μ-loop
-loop-less c = omega (arith, c .before .before .before .before .before .before .before .before .loop-test .taken)
+loop-less c = omega (arith, c .before .before .before .before .before .before .before .before .before .before .before .loop-test .taken)
 
--- src/lib.rt:74:5
 loop-again : tie.Need-loop-again Inv-loop μ-loop
-loop-again c = ((c .before .before .before .before .before .before .rewind .ensures .at, c .before .before .before .before .before .before .rewind .ensures .time ∙ omega (arith, c .before .before .before .before .before .before .before .before .loop-test .taken)), way-more (c .before .before .before .before .before .before .before .before .before .before .before .pre) (c .before .before .before .before .before .before .before .before .before .loop .inv .1) (c .before .before .before .before .before .before .before .before .loop-test .taken) (c .before .before .before .before .before .before .rewind .ensures) (c .before .step .ensures) _ (omega (arith, c .before .before .before .before .before .before .before .before .loop-test .taken)))
+loop-again c = ((c .before .before .before .before .before .before .before .before .rewind .ensures .at, (c .before .before .before .before .before .before .before .before .rewind .ensures .stack, c .before .before .before .before .before .before .before .before .rewind .ensures .time ∙ omega (arith, c .before .before .before .before .before .before .before .before .before .before .before .loop-test .taken))), way-more (c .before .before .before .before .before .before .before .before .before .before .before .before .before .before .before .pre) (c .before .before .before .before .before .before .before .before .before .before .before .before .loop .inv .1) (c .before .before .before .before .before .before .before .before .before .before .before .loop-test .taken) (c .before .before .before .before .before .before .before .before .rewind .ensures) (c .before .step .ensures) _ (omega (arith, c .before .before .before .before .before .before .before .before .before .before .before .loop-test .taken)))
 
--- src/lib.rt:67:1
 same-length : tie.Need-same-length Inv-loop μ-loop
 same-length c = c .before .loop .inv .1 .inside .size
 
--- src/lib.rt:67:1
 same-length-2 : tie.Need-same-length-2 Inv-loop μ-loop
-same-length-2 c = c .before .loop .inv .1 .size
+same-length-2 c = c .before .loop .inv .0 .1 .0 .size ∙ sym (c .before .before .before .before .pre .stack .size)
 
--- src/lib.rt:67:1
+same-length-3 : tie.Need-same-length-3 Inv-loop μ-loop
+same-length-3 c = c .before .loop .inv .1 .size
+
 returns : tie.Need-returns Inv-loop μ-loop
 returns c = way-end (omega (arith, c .loop-test .left)) (c .before .loop .inv .1)
 
@@ -74,4 +62,5 @@ way-back-spec =
     loop-again
     same-length
     same-length-2
+    same-length-3
     returns)
