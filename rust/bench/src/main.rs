@@ -23,8 +23,18 @@ Measures the proved search against the same algorithm in Rust and against a dens
 
   --repeats R   runs of each call, of which the least time counts (default 5)
   --worst       also the worst known records (longer)
-  --write PATH  also writes the tables to a file, as a Markdown page
+  --write PATH  also writes the tables to a file, as a Markdown page; notes that the old page has are kept
   --help        this text";
+
+/// The heading of what is written by hand, at the end of the page.
+const NOTES: &str = "\n## Notes\n";
+
+/// The new tables, and the notes of the page that they replace.
+fn with_notes(text: &str, path: &str) -> String {
+    let old = std::fs::read_to_string(path).unwrap_or_default();
+    let notes = old.find(NOTES).map_or("", |at| &old[at..]);
+    format!("{text}{notes}")
+}
 
 struct Options {
     repeats: usize,
@@ -86,7 +96,7 @@ fn main() -> ExitCode {
     let text = page::write(&usual, &growing, &worst);
     print!("{text}");
     if let Some(path) = options.write {
-        if let Err(error) = std::fs::write(&path, text) {
+        if let Err(error) = std::fs::write(&path, with_notes(&text, &path)) {
             eprintln!("bench: {path}: {error}");
             return ExitCode::FAILURE;
         }
