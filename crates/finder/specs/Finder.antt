@@ -64,10 +64,11 @@ fileWords s r ws = onPlan (planFile s .answer) (wordsAfter (planFile s .plan) r 
 
 -- ---- the readings of a file
 
--- decoding them into a list of room readings: the reader's refusal, then the decoder's
+-- the refusal of decoding them into a list of room readings
 abbrev pub readNumber : List ℕ → ℕ → ℕ
 readNumber s room = decodeNumber (length (readingsPart s)) room
 
+-- the reader's refusal, then the decoder's, or how many they are
 unfoldable pub readOutcome : List ℕ → ℕ → Outcome
 readOutcome s room = onPlan (planFile s .answer) (pick (eqb (readNumber s room) 0) (given 0 0 (length (readingsPart s) / 2)) (refusedWith (readNumber s room))) refusedWith
 
