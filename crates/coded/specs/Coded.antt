@@ -1,0 +1,39 @@
+-- The number of an edge and of a label, read; and the lists that have those of a plan. Assumes nothing.
+use mathlib.Core.Path.{_≡_}
+use mathlib.Core.List.{List}
+use Prim.Native.Nat.{ℕ, _+_, _/_, _%_, _<_}
+use lib.Dec.{eqb}
+use lib.ListN.{length, getD}
+use Rattle.integers.specs.Pick.{pick}
+use Rattle.plan.specs.declared.Kind.{Kind}
+use Rattle.plan.specs.declared.Kind.the-variants.{Stay, Any, Up, Down, Abs}
+use Rattle.plan.specs.declared.Edge.{Edge}
+use Rattle.plan.specs.declared.Label.{Label}
+use Rattle.plan.specs.declared.Plan.{Plan}
+use Rattle.model.specs.Model.{edgeAt, labelAt}
+
+-- the kind with this number, at this gap
+abbrev pub kindWith : ℕ → ℕ → Kind
+kindWith k g = pick (eqb k 0) Stay (pick (eqb k 1) Any (pick (eqb k 2) (Up g) (pick (eqb k 3) (Down g) (Abs g))))
+
+-- the edge with this number
+unfoldable pub edgeIn : ℕ → Edge
+edgeIn w = record { from = w % 256; to = w / 256 % 256; kind = kindWith (w / 16777216 % 256) (w / 4294967296 % 65536); class = w / 65536 % 256 }
+
+-- the label with this number
+unfoldable pub labelIn : ℕ → Label
+labelIn w = record { p = w % 65536; q = w / 65536 % 65536; c = w / 4294967296 % 256 }
+
+-- the first n edges of a plan stand at the front of a list of 96
+pub record EdgesFrom (P : Plan) (n : ℕ) (code : List ℕ) : Type 0 where
+  pub size : length code ≡ 96
+  pub edges : (i : ℕ) → i < n → edgeIn (getD code i 0) ≡ edgeAt P i
+
+-- and then its first n labels
+pub record LabelsFrom (P : Plan) (n : ℕ) (code : List ℕ) : Type 0 where
+  pub front : EdgesFrom P 32 code
+  pub labels : (i : ℕ) → i < n → labelIn (getD code (32 + i) 0) ≡ labelAt P i
+
+-- the edges and labels of a plan
+abbrev pub Coded : Plan → List ℕ → Type 0
+Coded P code = LabelsFrom P 64 code

@@ -1,0 +1,112 @@
+// The edges and labels of a plan as numbers in a lent list, one number each. A plan is handed on by value, which copies its 672 bytes at each
+// call; what a search looks up at every reading stands in such a list instead.
+use plan::Edge;
+use plan::Kind;
+use plan::Label;
+use plan::Plan;
+ghost use mathlib.Core.Path.{_≡_};
+ghost use Prim.Native.Nat.{_+_, _<_};
+ghost use lib.ListN.{length, getD};
+ghost use Rattle.coded.specs.Coded.{kindWith, edgeIn, labelIn, Coded, EdgesFrom};
+
+// The numbers of a list: 32 edges, then 64 labels.
+pub const SIZE: usize = 96;
+
+// The kind with this number, at this gap.
+fn kind_with(number: u64, gap: u16) -> Kind
+    ensures { λ r. ⌜ r ≡ kindWith number gap ⌝ }
+{
+    if number == 0 {
+        return Kind::Stay;
+    }
+    if number == 1 {
+        return Kind::Any;
+    }
+    if number == 2 {
+        return Kind::Up(gap);
+    }
+    if number == 3 {
+        return Kind::Down(gap);
+    }
+    Kind::Abs(gap)
+}
+
+// Edge i.
+pub fn edge_in(code: &[u64], i: usize) -> Edge
+    requires { ⌜ i < length (now code) ⌝ }
+    ensures { λ r. ⌜ r ≡ edgeIn (getD (now (code .entry)) i 0) ⌝ }
+{
+    let w = code[i];
+    let gap = (w / 4294967296 % 65536) as u16;
+    let kind = kind_with(w / 16777216 % 256, gap);
+    Edge {
+        from: (w % 256) as u8,
+        to: (w / 256 % 256) as u8,
+        kind,
+        class: (w / 65536 % 256) as u8,
+    }
+}
+
+// Label i.
+pub fn label_in(code: &[u64], i: usize) -> Label
+    requires { ⌜ 32 + i < length (now code) ⌝ }
+    ensures { λ r. ⌜ r ≡ labelIn (getD (now (code .entry)) (32 + i) 0) ⌝ }
+{
+    let w = code[32 + i];
+    Label {
+        p: (w % 65536) as u16,
+        q: (w / 65536 % 65536) as u16,
+        c: (w / 4294967296 % 256) as u8,
+    }
+}
+
+// The number of an edge.
+fn edge_number(e: Edge) -> u64
+    ensures { λ r. ⌜ edgeIn r ≡ e ⌝ }
+{
+    let kind = e.kind;
+    let number = plan::kind_number(kind) as u64;
+    let gap = plan::gap_of(kind) as u64;
+    let ends = (e.from as u64) + 256 * (e.to as u64);
+    ends + 65536 * (e.class as u64) + 16777216 * number + 4294967296 * gap
+}
+
+// The number of a label.
+fn label_number(l: Label) -> u64
+    ensures { λ r. ⌜ labelIn r ≡ l ⌝ }
+{
+    (l.p as u64) + 65536 * (l.q as u64) + 4294967296 * (l.c as u64)
+}
+
+fn put_edges(plan: Plan, code: &mut [u64])
+    requires { ⌜ length (now code) ≡ 96 ⌝ }
+    ensures { λ r. ⌜ EdgesFrom plan 32 (now (code .exit)) ⌝ }
+{
+    let mut i = 0;
+    while i < 32 {
+        let e = plan.edges[i];
+        code[i] = edge_number(e);
+        i += 1;
+    }
+}
+
+fn put_labels(plan: Plan, code: &mut [u64])
+    requires { ⌜ EdgesFrom plan 32 (now code) ⌝ }
+    ensures { λ r. ⌜ Coded plan (now (code .exit)) ⌝ }
+{
+    let mut i = 0;
+    while i < 64 {
+        let l = plan.labels[i];
+        code[32 + i] = label_number(l);
+        i += 1;
+    }
+}
+
+// The edges and labels of a plan, put in a list.
+pub fn put_plan(plan: Plan, code: &mut [u64])
+    requires { ⌜ length (now code) ≡ 96 ⌝ }
+    ensures { λ r. ⌜ Coded plan (now (code .exit)) ⌝ }
+{
+    put_edges(plan, code);
+    put_labels(plan, code);
+}
