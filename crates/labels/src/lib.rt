@@ -8,6 +8,7 @@ ghost use Prim.Native.Nat.{suc, _-_, _+_, _≤_, _<_};
 ghost use lib.Dec.{eqb};
 ghost use Rattle.model.specs.Model.{changeOf, within};
 ghost use Rattle.model.specs.Labels.{labelOn, countAfter, countBefore, labelTest};
+ghost use Rattle.coded.specs.Coded.{Coded};
 ghost use Rattle.labels.specs.Boundary.{labelOf, leadsFrom};
 
 // The label that has a boundary.
@@ -43,16 +44,15 @@ fn is_within(l: Label, t: usize) -> bool
     }
 }
 
-// The label that has boundary t.
-pub fn label_on(plan: Plan, t: usize) -> Cover
-    requires { ⌜ plan .labelcount ≤ 64 ⌝ }
+// The label that has boundary t, looked up in the plan's list of numbers.
+pub fn label_on(plan: Plan, code: &[u64], t: usize) -> Cover
+    requires { ⌜ (plan .labelcount ≤ 64) × Coded plan (now code) ⌝ }
     ensures { λ r. ⌜ labelOf r ≡ labelOn plan t ⌝ }
 {
-    let labels = plan.labels;
     let mut i = plan.labelcount;
     while 0 < i {
         i -= 1;
-        let l = labels[i];
+        let l = coded::label_in(code, i);
         if is_within(l, t) {
             return Cover::By(l);
         }

@@ -1,35 +1,36 @@
-use borrow.Author.Needs.{needs}
+-- `labels::label_on`: from the last label to the first. Assumes nothing.
 use Prim.Native.Nat.{_≤_}
 use mathlib.Core.Path.{_≡_, _∙_, sym, ap, refl}
+use mathlib.Core.Option.{some}
 use native.Mathlib.Omega.{arith}
-use Rattle.labels.proofs.Counts.{coveringIn, label-on-in, cover-none, cover-here, cover-not}
+use Rattle.plan.specs.declared.Plan.{Plan}
+use Rattle.coded.specs.Coded.{Coded}
+use Rattle.labels.proofs.Counts.{coveringIn, label-on-in, cover-none, cover-here, cover-not, label-got, within-got}
+use borrow.Author.Needs.{needs}
 use Rattle.labels.proofs.label_on.Statement.{statement}
 use Rattle.labels.proofs.label_on.Tie as tie
 use Rattle.labels.proofs.label_on.Reads as reads
 use Rattle.labels.proofs.label_on.Lts as lts
+use Rattle.coded.proofs.label_in.Reads as label-in-reads
 use Rattle.labels.proofs.is_within.Reads as is-within-reads
 
 abbrev Inv-loop : tie.InvT-loop
-Inv-loop t labels i₀ i = (i ≤ i₀) × (coveringIn labels i₀ t ≡ coveringIn labels i t)
+Inv-loop code t i₀ i = (i ≤ i₀) × ((P : Plan) → Coded P code → i₀ ≤ 64 → coveringIn (P .labels) i₀ t ≡ coveringIn (P .labels) i t)
 
 abbrev μ-loop : tie.MeasureT-loop
-μ-loop t labels i₀ i = i
+μ-loop code t i₀ i = i
 
 -- src/lib.rt:53:5
 loop-holds : tie.Need-loop-holds Inv-loop μ-loop
-loop-holds c = (omega arith, refl)
+loop-holds c = (omega arith, λ P h g. refl)
 
 -- src/lib.rt:54:9
 sub-i : tie.Need-sub-i Inv-loop μ-loop
-sub-i c = omega arith
+sub-i c = omega (arith, c .loop-test .taken)
 
--- src/lib.rt:55:17
-mul-l : tie.Need-mul-l Inv-loop μ-loop
-mul-l c = omega arith
-
--- src/lib.rt:55:17
-array-copy-out-l : tie.Need-array-copy-out-l Inv-loop μ-loop
-array-copy-out-l c = omega arith
+-- src/lib.rt:55:13
+label-in-requires : tie.Need-label-in-requires Inv-loop μ-loop
+label-in-requires c κs = omega (arith, c .loop-test .taken, c .before .loop .inv .0, c .before .before .before .pre .0, c .before .before .before .pre .1 .front .size)
 
 -- src/lib.rt:56:12
 is-within-requires : tie.Need-is-within-requires Inv-loop μ-loop
@@ -37,19 +38,19 @@ is-within-requires c κs = search needs
 
 -- src/lib.rt:57:13
 returns : tie.Need-returns Inv-loop μ-loop
-returns c = sym (label-on-in _ _ ∙ c .before .before .before .before .loop .inv .1 ∙ cover-here _ _ _ (c .before .before .before .loop-test .taken) _ (c .before .is-within .ensures) (c .if1 .taken))
+returns c = ap some (label-got _ _ _ (c .before .before .before .before .before .before .pre .1) (c .before .before .label-in .ensures) (omega (arith, c .before .before .before .loop-test .taken, c .before .before .before .before .loop .inv .0, c .before .before .before .before .before .before .pre .0))) ∙ sym (label-on-in _ _ ∙ c .before .before .before .before .loop .inv .1 _ (c .before .before .before .before .before .before .pre .1) (c .before .before .before .before .before .before .pre .0) ∙ cover-here _ _ _ (c .before .before .before .loop-test .taken) _ (within-got _ (label-got _ _ _ (c .before .before .before .before .before .before .pre .1) (c .before .before .label-in .ensures) (omega (arith, c .before .before .before .loop-test .taken, c .before .before .before .before .loop .inv .0, c .before .before .before .before .before .before .pre .0))) (c .before .is-within .ensures)) (c .if1 .taken))
 
 -- src/lib.rt:53:5
 loop-less : tie.Need-loop-less Inv-loop μ-loop
-loop-less c = omega arith
+loop-less c = omega (arith, c .before .before .before .loop-test .taken)
 
 -- src/lib.rt:53:5
 loop-again : tie.Need-loop-again Inv-loop μ-loop
-loop-again c = (omega arith, c .before .before .before .before .loop .inv .1 ∙ cover-not _ _ _ (c .before .before .before .loop-test .taken) _ (c .before .is-within .ensures) (c .if1 .left))
+loop-again c = (omega (arith, c .before .before .before .before .loop .inv .0), λ P h g. c .before .before .before .before .loop .inv .1 P h g ∙ cover-not _ _ _ (c .before .before .before .loop-test .taken) _ (within-got _ (label-got P _ _ h (c .before .before .label-in .ensures) (omega (arith, c .before .before .before .loop-test .taken, c .before .before .before .before .loop .inv .0))) (c .before .is-within .ensures)) (c .if1 .left))
 
--- src/lib.rt:47:1
+-- src/lib.rt:48:1
 returns-2 : tie.Need-returns-2 Inv-loop μ-loop
-returns-2 c = sym (label-on-in _ _ ∙ c .before .loop .inv .1 ∙ cover-none _ _ _ (c .loop-test .left))
+returns-2 c = sym (label-on-in _ _ ∙ c .before .loop .inv .1 _ (c .before .before .before .pre .1) (c .before .before .before .pre .0) ∙ cover-none _ _ _ (c .loop-test .left))
 
 pub label-on-spec : {M : Type 1} → statement M
 label-on-spec =
@@ -59,8 +60,7 @@ label-on-spec =
     μ-loop
     loop-holds
     sub-i
-    mul-l
-    array-copy-out-l
+    label-in-requires
     is-within-requires
     returns
     loop-less
