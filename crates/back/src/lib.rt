@@ -7,10 +7,10 @@ use plan::Edge;
 use plan::Plan;
 ghost use mathlib.Core.Path.{_≡_};
 ghost use Prim.Native.Nat.{ℕ, _+_, _*_, _≤_, _<_};
-ghost use Rattle.model.specs.Model.{edgeAt};
 ghost use Rattle.model.specs.Held.{Table};
 ghost use Rattle.model.specs.Ends.{pointAt};
 ghost use Rattle.layers.specs.Layer.{ShapeOf};
+ghost use Rattle.coded.specs.Coded.{Coded};
 ghost use Rattle.labels.specs.Boundary.{labelOf};
 ghost use Rattle.back.specs.Step.{MayOffer, Offers, meetsAt, BackReady, StepTo};
 ghost use Rattle.back.specs.Read.{Readable, Reads, EndTo, lesserOf};
@@ -123,15 +123,6 @@ fn meets(value: u64, pen: u64, want: u64) -> bool
     }
 }
 
-// The plan's edge i.
-pub fn edge_at(plan: Plan, i: usize) -> Edge
-    requires { ⌜ i < 32 ⌝ }
-    ensures { λ r. ⌜ r ≡ edgeAt plan i ⌝ }
-{
-    let edges = plan.edges;
-    edges[i]
-}
-
 // The edge and the level's index before a boundary, and the cost there.
 pub enum Back {
     To { edge: usize, level: u64, value: u64 },
@@ -143,6 +134,7 @@ pub enum Back {
 pub fn step_back(
     ws: &[u64],
     plan: Plan,
+    code: &[u64],
     on: Cover,
     t: usize,
     cur: usize,
@@ -152,13 +144,13 @@ pub fn step_back(
     want: u64,
     g: Shape,
 ) -> Back
-    requires { ⌜ Readable cur g (now ws) × BackReady plan (labelOf on) t k s j g ⌝ }
+    requires { ⌜ Readable cur g (now ws) × (BackReady plan (labelOf on) t k s j g × Coded plan (now code)) ⌝ }
     ensures { λ r. ⌜ ((H : Table) → Reads cur g (now (ws .entry)) H → StepTo plan t H k s j want r) ⌝ }
 {
     let n = plan.edgecount;
     let mut i = 0;
     while i < n {
-        let e = edge_at(plan, i);
+        let e = coded::edge_in(code, i);
         let low = offer_of(ws, e, on, t, cur, k, s, j, g);
         let pen = plan::penalty_of(e.class);
         if meets(low.value, pen, want) {

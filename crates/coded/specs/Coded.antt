@@ -1,5 +1,5 @@
 -- The number of an edge and of a label, read; and the lists that have those of a plan. Assumes nothing.
-use mathlib.Core.Path.{_≡_}
+use mathlib.Core.Path.{_≡_, _∙_}
 use mathlib.Core.List.{List}
 use Prim.Native.Nat.{ℕ, _+_, _/_, _%_, _<_}
 use lib.Dec.{eqb}
@@ -37,3 +37,10 @@ pub record LabelsFrom (P : Plan) (n : ℕ) (code : List ℕ) : Type 0 where
 -- the edges and labels of a plan
 abbrev pub Coded : Plan → List ℕ → Type 0
 Coded P code = LabelsFrom P 64 code
+
+-- what is read of a list that has a plan's edges and labels
+pub edge-got : (P : Plan) {code : List ℕ} (i : ℕ) (e : Edge) → Coded P code → i < 32 → e ≡ edgeIn (getD code i 0) → e ≡ edgeAt P i
+edge-got P i e h g q = q ∙ h .front .edges i g
+
+pub label-got : (P : Plan) {code : List ℕ} (i : ℕ) (l : Label) → Coded P code → i < 64 → l ≡ labelIn (getD code (32 + i) 0) → l ≡ labelAt P i
+label-got P i l h g q = q ∙ h .labels i g

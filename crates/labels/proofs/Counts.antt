@@ -17,7 +17,6 @@ use Rattle.plan.specs.declared.Kind.the-variants.{Stay, Any, Up, Down, Abs}
 use Rattle.plan.specs.Build.{noLabel}
 use Rattle.model.specs.Model.{labelAt, changeOf, within, markOf, need}
 use Rattle.model.specs.Labels.{covering, labelOn, countAfter, countBefore, labelTest}
-use Rattle.coded.specs.Coded.{Coded, labelIn}
 use Rattle.labels.specs.declared.Cover.{Cover}
 use Rattle.labels.specs.declared.Cover.the-variants.{Free, By}
 use Rattle.labels.specs.Boundary.{labelOf, leadsFrom}
@@ -36,10 +35,6 @@ covering-in P (suc n) t = rw (covering-in P n t) refl
 pub label-on-in : (P : Plan) (t : ℕ) → labelOn P t ≡ coveringIn (P .labels) (P .labelcount) t
 unfolding labelOn
 label-on-in P t = covering-in P (P .labelcount) t
-
--- a label read from the plan's list of numbers
-pub label-got : (P : Plan) {code : List ℕ} (i : ℕ) (l : Label) → Coded P code → l ≡ labelIn (getD code (32 + i) 0) → i < 64 → l ≡ labelAt P i
-label-got P i l h e g = e ∙ h .labels i g
 
 pub within-got : {l l′ : Label} (t : ℕ) {r : Bool} → l ≡ l′ → r ≡ within (l .p) (l .q) t → r ≡ within (l′ .p) (l′ .q) t
 within-got t e h = h ∙ ap (λ (x : Label). within (x .p) (x .q) t) e

@@ -8,6 +8,7 @@ use plan::Plan;
 ghost use mathlib.Core.Path.{_≡_};
 ghost use Prim.Native.Nat.{_+_, _*_, _≤_, _<_};
 ghost use lib.ListN.{length};
+ghost use Rattle.coded.specs.Coded.{Coded};
 ghost use Rattle.layers.specs.Layer.{Shape-small};
 ghost use Rattle.saved.specs.Packed.{Row, PackReady, Saves, UnpackReady, Unpacked};
 ghost use Rattle.saved.specs.Walk.{Workspace, At, Goes, Walked, Reached, Places, Stack, Pushed, Dropped, Restarted, Stops};
@@ -218,8 +219,9 @@ fn restart(
 }
 
 // Forward to x, with nothing saved on the way.
-fn forward(ws: &mut [u64], plan: Plan, readings: &[i16], g: Shape, walk: Walk, x: usize) -> Walk
+fn forward(ws: &mut [u64], plan: Plan, code: &[u64], readings: &[i16], g: Shape, walk: Walk, x: usize) -> Walk
     requires { ⌜ Goes plan (now readings) g walk x (now ws) ⌝ }
+    requires { ⌜ Coded plan (now code) ⌝ }
     ensures { λ r. ⌜ Reached plan (now (readings .entry)) x (walk .count) (now (ws .entry)) (now (ws .exit)) r ⌝ }
 {
     let free = 16 * area(g);
@@ -228,7 +230,7 @@ fn forward(ws: &mut [u64], plan: Plan, readings: &[i16], g: Shape, walk: Walk, x
     let mut cur = walk.cur;
     let mut other = walk.other;
     while time < x {
-        layers::next_layer(ws, plan, readings, time, cur, other, free, g);
+        layers::next_layer(ws, plan, code, readings, time, cur, other, free, g);
         let last = cur;
         cur = other;
         other = last;
@@ -246,6 +248,7 @@ fn forward(ws: &mut [u64], plan: Plan, readings: &[i16], g: Shape, walk: Walk, x
 fn go_on(
     ws: &mut [u64],
     plan: Plan,
+    code: &[u64],
     readings: &[i16],
     g: Shape,
     walk: Walk,
@@ -254,9 +257,10 @@ fn go_on(
     t: usize,
 ) -> Walk
     requires { ⌜ Goes plan (now readings) g walk x (now ws) × Stack plan (now readings) (walk .count) (now table) (now ws) ⌝ }
+    requires { ⌜ Coded plan (now code) ⌝ }
     ensures { λ r. ⌜ Walked plan (now (readings .entry)) x (now (table .exit)) (now (ws .entry)) (now (ws .exit)) r ⌝ }
 {
-    let w = forward(ws, plan, readings, g, walk, x);
+    let w = forward(ws, plan, code, readings, g, walk, x);
     if t <= x {
         return w;
     }
@@ -285,6 +289,7 @@ fn go_on(
 pub fn advance(
     ws: &mut [u64],
     plan: Plan,
+    code: &[u64],
     readings: &[i16],
     g: Shape,
     walk: Walk,
@@ -292,12 +297,13 @@ pub fn advance(
     t: usize,
 ) -> Walk
     requires { ⌜ Goes plan (now readings) g walk t (now ws) × Stack plan (now readings) (walk .count) (now table) (now ws) ⌝ }
+    requires { ⌜ Coded plan (now code) ⌝ }
     ensures { λ r. ⌜ Walked plan (now (readings .entry)) t (now (table .exit)) (now (ws .entry)) (now (ws .exit)) r ⌝ }
 {
     let mut w = walk;
     while w.time < t {
         let x = next_stop(ws, g, w, table, t);
-        w = go_on(ws, plan, readings, g, w, table, x, t);
+        w = go_on(ws, plan, code, readings, g, w, table, x, t);
     }
     w
 }
@@ -316,6 +322,7 @@ pub fn begin(ws: &mut [u64], plan: Plan, readings: &[i16], g: Shape, table: &mut
 pub fn rewind(
     ws: &mut [u64],
     plan: Plan,
+    code: &[u64],
     readings: &[i16],
     g: Shape,
     walk: Walk,
@@ -323,9 +330,10 @@ pub fn rewind(
     t: usize,
 ) -> Walk
     requires { ⌜ Workspace plan (now readings) g (now ws) × (At plan (now readings) walk (now ws) × (Stack plan (now readings) (walk .count) (now table) (now ws) × ((1 ≤ t) × (t ≤ walk .time)))) ⌝ }
+    requires { ⌜ Coded plan (now code) ⌝ }
     ensures { λ r. ⌜ Walked plan (now (readings .entry)) t (now (table .exit)) (now (ws .entry)) (now (ws .exit)) r ⌝ }
 {
     let kept = drop_after(table, walk.count, t);
     let w = restart(ws, plan, readings, g, walk.cur, walk.other, table, kept);
-    advance(ws, plan, readings, g, w, table, t)
+    advance(ws, plan, code, readings, g, w, table, t)
 }

@@ -14,6 +14,7 @@ ghost use Prim.Native.Nat.{suc, _+_, _-_, _*_, _≤_, _<_};
 ghost use lib.IntN.{pos, _+ℤ_};
 ghost use Rattle.model.specs.Run.{joins};
 ghost use Rattle.quadratic.specs.Fine.{far};
+ghost use Rattle.coded.specs.Coded.{Coded};
 ghost use Rattle.runs.specs.Runs.{fiveOf};
 ghost use Rattle.trace.specs.Trace.{StepReady, StepMade};
 
@@ -76,6 +77,7 @@ pub fn run_of(first: usize, last: usize, state: usize, lo: i16, j: u64, edge: us
 pub fn step(
     ws: &[u64],
     plan: Plan,
+    code: &[u64],
     readings: &[i16],
     t: usize,
     cur: usize,
@@ -84,14 +86,16 @@ pub fn step(
     out: &mut [i32],
 ) -> Point
     requires { ⌜ StepReady plan (now readings) t cur g from (now ws) (now out) ⌝ }
+    requires { ⌜ Coded plan (now code) ⌝ }
     ensures { λ r. ⌜ StepMade plan (now (readings .entry)) t from r (now (out .entry)) (now (out .exit)) ⌝ }
 {
-    let on = labels::label_on(plan, t);
+    let on = labels::label_on(plan, code, t);
     let u = integers::bias(readings[t]);
     let want = from.value - square_of(u, g.base + from.level);
     let found = back::step_back(
         ws,
         plan,
+        code,
         on,
         t,
         cur,
@@ -104,7 +108,7 @@ pub fn step(
     let Back::To { edge, level, value } = found else {
         return from;
     };
-    let e = back::edge_at(plan, edge);
+    let e = coded::edge_in(code, edge);
     let kind = e.kind;
     let count = labels::count_before(on, t, kind, from.count);
     let state = e.from as usize;

@@ -4,8 +4,8 @@ use mathlib.Core.Path.{_≡_, _∙_, sym, ap, refl}
 use mathlib.Core.Option.{some}
 use native.Mathlib.Omega.{arith}
 use Rattle.plan.specs.declared.Plan.{Plan}
-use Rattle.coded.specs.Coded.{Coded}
-use Rattle.labels.proofs.Counts.{coveringIn, label-on-in, cover-none, cover-here, cover-not, label-got, within-got}
+use Rattle.coded.specs.Coded.{Coded, label-got}
+use Rattle.labels.proofs.Counts.{coveringIn, label-on-in, cover-none, cover-here, cover-not, within-got}
 use borrow.Author.Needs.{needs}
 use Rattle.labels.proofs.label_on.Statement.{statement}
 use Rattle.labels.proofs.label_on.Tie as tie
@@ -38,7 +38,7 @@ is-within-requires c κs = search needs
 
 -- src/lib.rt:57:13
 returns : tie.Need-returns Inv-loop μ-loop
-returns c = ap some (label-got _ _ _ (c .before .before .before .before .before .before .pre .1) (c .before .before .label-in .ensures) (omega (arith, c .before .before .before .loop-test .taken, c .before .before .before .before .loop .inv .0, c .before .before .before .before .before .before .pre .0))) ∙ sym (label-on-in _ _ ∙ c .before .before .before .before .loop .inv .1 _ (c .before .before .before .before .before .before .pre .1) (c .before .before .before .before .before .before .pre .0) ∙ cover-here _ _ _ (c .before .before .before .loop-test .taken) _ (within-got _ (label-got _ _ _ (c .before .before .before .before .before .before .pre .1) (c .before .before .label-in .ensures) (omega (arith, c .before .before .before .loop-test .taken, c .before .before .before .before .loop .inv .0, c .before .before .before .before .before .before .pre .0))) (c .before .is-within .ensures)) (c .if1 .taken))
+returns c = ap some (label-got _ _ _ (c .before .before .before .before .before .before .pre .1) (omega (arith, c .before .before .before .loop-test .taken, c .before .before .before .before .loop .inv .0, c .before .before .before .before .before .before .pre .0)) (c .before .before .label-in .ensures)) ∙ sym (label-on-in _ _ ∙ c .before .before .before .before .loop .inv .1 _ (c .before .before .before .before .before .before .pre .1) (c .before .before .before .before .before .before .pre .0) ∙ cover-here _ _ _ (c .before .before .before .loop-test .taken) _ (within-got _ (label-got _ _ _ (c .before .before .before .before .before .before .pre .1) (omega (arith, c .before .before .before .loop-test .taken, c .before .before .before .before .loop .inv .0, c .before .before .before .before .before .before .pre .0)) (c .before .before .label-in .ensures)) (c .before .is-within .ensures)) (c .if1 .taken))
 
 -- src/lib.rt:53:5
 loop-less : tie.Need-loop-less Inv-loop μ-loop
@@ -46,7 +46,7 @@ loop-less c = omega (arith, c .before .before .before .loop-test .taken)
 
 -- src/lib.rt:53:5
 loop-again : tie.Need-loop-again Inv-loop μ-loop
-loop-again c = (omega (arith, c .before .before .before .before .loop .inv .0), λ P h g. c .before .before .before .before .loop .inv .1 P h g ∙ cover-not _ _ _ (c .before .before .before .loop-test .taken) _ (within-got _ (label-got P _ _ h (c .before .before .label-in .ensures) (omega (arith, c .before .before .before .loop-test .taken, c .before .before .before .before .loop .inv .0))) (c .before .is-within .ensures)) (c .if1 .left))
+loop-again c = (omega (arith, c .before .before .before .before .loop .inv .0), λ P h g. c .before .before .before .before .loop .inv .1 P h g ∙ cover-not _ _ _ (c .before .before .before .loop-test .taken) _ (within-got _ (label-got P _ _ h (omega (arith, c .before .before .before .loop-test .taken, c .before .before .before .before .loop .inv .0)) (c .before .before .label-in .ensures)) (c .before .is-within .ensures)) (c .if1 .left))
 
 -- src/lib.rt:48:1
 returns-2 : tie.Need-returns-2 Inv-loop μ-loop
