@@ -20,8 +20,7 @@ use Rattle.plan.specs.declared.Kind.the-variants.{Stay, Any, Up, Down, Abs}
 use Rattle.plan.specs.Build.{gapOf}
 use Rattle.model.specs.Index.{noCost, prefixMin, suffixMin, upMin, downMin, edgeMin, edge-min, edge-min-none, prefix-met, prefix-least}
 use Rattle.model.specs.Held.{raise}
-use Rattle.layer.specs.declared.Temps.{Temps}
-use Rattle.layer.specs.Edge.{Into, Joint, Hand, Sound, Ready, Spared, Moved, Joined, Taken, WithLoss, anyMin, swapped, kept-off, spared-refl, spared-then, spared-curve, spared-order, apart-swap, hand-order, order-then, min-regroup, raise-min, raise-none, less-min, plus-raise, lowest-prefix}
+use Rattle.layer.specs.Edge.{Into, Joint, Hand, Sound, Ready, Spared, Moved, Joined, Taken, WithLoss, anyMin, kept-off, spared-refl, spared-then, spared-curve, spared-swap, apart-swap, hand-swap, min-regroup, raise-min, raise-none, less-min, plus-raise, lowest-prefix}
 
 pub lower-limits : {A B base L : ℕ} (C : ℕ) → C ≤ B → Limits A B base L → Limits A C base L
 lower-limits C h l = record { readings = l .readings; cost = omega (arith, l .cost); low = l .low; high = l .high }
@@ -101,15 +100,14 @@ any-moved {ws} {base = base} {L} {f} {r = r} h p t m = record {
         ⊎-elim (λ e. inl (g .is ∙ e)) (λ e. inr (omega (arith, g .is))) (curve-value l c (r .level) (omega (arith, g .high)))
 
 -- ---- the least of two
-pub joined : {ws w1 : List ℕ} {pen base L g : ℕ} {t : Temps} → Joint t g L (length ws) → Made (λ (j : ℕ). better (base + j) (piece ws (t .acc) L j) (raised pen (piece ws g L j))) ws w1 (t .next) L → Joined pen base L ws w1 g t (swapped t)
+pub joined : {ws w1 : List ℕ} {pen base L g acc next : ℕ} → Joint acc next g L (length ws) → Made (λ (j : ℕ). better (base + j) (piece ws acc L j) (raised pen (piece ws g L j))) ws w1 next L → Joined pen base L ws w1 g acc next
 joined {pen = pen} h m = record {
-  order = refl;
   kept = m .kept;
   curve = λ A B C F G l k ca cg. curve-as (λ (j : ℕ). min (F j) (raise (G j) pen)) (λ j i. less-min (F j) _ ∙ ap (min (F j)) (plus-raise pen (G j) (curve-most (lower-limits C (omega arith) l) cg j i))) (curve-least pen k l ca cg (h .room-next) m);
 }
 
 -- ---- an edge: moved, then joined
-module _ {pen base L f : ℕ} {ws : List ℕ} {t : Temps} (y : Ready t f pen base L ws) where
+module _ {pen base L f acc next work : ℕ} {ws : List ℕ} (y : Ready acc next work f pen base L ws) where
   spare : Limits 1048576 (18014398509481984 - pen) base L
   spare = lower-limits _ (omega arith) (y .limits)
 
@@ -117,57 +115,58 @@ module _ {pen base L f : ℕ} {ws : List ℕ} {t : Temps} (y : Ready t f pen bas
   pub ready-from : Sound 18014398509481984 base L ws f
   ready-from = curve-costs (curve-wider 1048576 18014398509481984 (omega arith) (omega arith) (y .from))
 
-  pub ready-stay : Joint t f L (length ws)
+  pub ready-stay : Joint acc next f L (length ws)
   ready-stay = record { acc-next = y .hand .acc-next; g-next = y .hand .into .f-next; room-next = y .hand .into .room-next }
 
-  pub stay-taken : {w1 : List ℕ} {r : Temps} → Joined pen base L ws w1 f t r → Taken (λ (G : ℕ → ℕ). G) pen base L ws w1 f t r
+  pub stay-taken : {w1 : List ℕ} → Joined pen base L ws w1 f acc next → Taken (λ (G : ℕ → ℕ). G) pen base L ws w1 f acc next work next
   stay-taken {w1} j = record {
-    order = inr (j .order);
+    place = inr refl;
     spared = record { size = j .kept .size; word = λ i a b c. kept-off L (j .kept) i b };
-    curve = λ A B C F G l h ca cf. subst (λ (x : Temps). Curve A B base L w1 (x .acc) (λ (i : ℕ). min (F i) (raise (G i) pen))) (sym (j .order)) (j .curve A B C F G l h ca cf);
+    curve = λ A B C F G l h ca cf. j .curve A B C F G l h ca cf;
   }
 
-  module _ {E : (ℕ → ℕ) → ℕ → ℕ} {w1 : List ℕ} (m : Moved E base L ws w1 f (t .next) (t .work)) where
-    acc-moved : {A B : ℕ} {F : ℕ → ℕ} → Curve A B base L ws (t .acc) F → Curve A B base L w1 (t .acc) F
+  module _ {E : (ℕ → ℕ) → ℕ → ℕ} {w1 : List ℕ} (m : Moved E base L ws w1 f next work) where
+    acc-moved : {A B : ℕ} {F : ℕ → ℕ} → Curve A B base L ws acc F → Curve A B base L w1 acc F
     acc-moved c = spared-curve (m .spared) (y .hand .acc-next) (y .hand .acc-work) (y .hand .acc-work) c
 
-    pub moved-joint : Joint t (t .work) L (length w1)
-    moved-joint = record { acc-next = y .hand .acc-next; g-next = apart-swap (t .next) (t .work) (4 * L) (y .hand .into .next-work); room-next = omega (arith, y .hand .into .room-next, m .spared .size) }
+    pub moved-joint : Joint acc next work L (length w1)
+    moved-joint = record { acc-next = y .hand .acc-next; g-next = apart-swap next work (4 * L) (y .hand .into .next-work); room-next = omega (arith, y .hand .into .room-next, m .spared .size) }
 
-    pub moved-acc : Sound 18014398509481984 base L w1 (t .acc)
-    moved-acc = curve-costs (acc-moved (y .acc))
+    pub moved-acc : Sound 18014398509481984 base L w1 acc
+    moved-acc = curve-costs (acc-moved (y .so-far))
 
-    pub moved-work : Sound (18014398509481984 - pen) base L w1 (t .work)
+    pub moved-work : Sound (18014398509481984 - pen) base L w1 work
     moved-work = curve-costs (m .curve _ _ _ spare (y .from))
 
-    pub moved-taken : {w2 : List ℕ} {r : Temps} → Joined pen base L w1 w2 (t .work) t r → Taken E pen base L ws w2 f t r
+    pub moved-taken : {w2 : List ℕ} → Joined pen base L w1 w2 work acc next → Taken E pen base L ws w2 f acc next work next
     moved-taken {w2} j = record {
-      order = inr (j .order);
+      place = inr refl;
       spared = record { size = j .kept .size ∙ m .spared .size; word = λ i a b c. kept-off L (j .kept) i b ∙ m .spared .word i b c c };
-      curve = λ A B C F G l h ca cf. subst (λ (x : Temps). Curve A B base L w2 (x .acc) (λ (i : ℕ). min (F i) (raise (E G i) pen))) (sym (j .order)) (j .curve A B C F (E G) l h (acc-moved ca) (m .curve A C G (lower-limits C (omega arith) l) cf));
+      curve = λ A B C F G l h ca cf. j .curve A B C F (E G) l h (acc-moved ca) (m .curve A C G (lower-limits C (omega arith) l) cf);
     }
 
   -- ---- one after the other
-  module _ {E : (ℕ → ℕ) → ℕ → ℕ} {w1 : List ℕ} {u : Temps} (k : Taken E pen base L ws w1 f t u) where
+  module _ {E : (ℕ → ℕ) → ℕ → ℕ} {w1 : List ℕ} (k : Taken E pen base L ws w1 f acc next work next) where
     from-taken : {A B : ℕ} {G : ℕ → ℕ} → Curve A B base L ws f G → Curve A B base L w1 f G
     from-taken c = spared-curve (k .spared) (y .hand .f-acc) (y .hand .into .f-next) (y .hand .into .f-work) c
 
-    pub taken-ready : Ready u f pen base L w1
+    -- the two have changed places
+    pub taken-ready : Ready next acc work f pen base L w1
     taken-ready = record {
-      hand = rw (k .spared .size) (hand-order (k .order) (y .hand));
+      hand = rw (k .spared .size) (hand-swap (y .hand));
       low = y .low;
       some = y .some;
       limits = y .limits;
-      acc = curve-costs (k .curve _ _ _ _ _ (y .limits) (omega (arith, y .low)) (y .acc) (y .from));
+      so-far = curve-costs (k .curve _ _ _ _ _ (y .limits) (omega (arith, y .low)) (y .so-far) (y .from));
       from = curve-costs (from-taken (y .from));
     }
 
-    pub taken-both : {D : (ℕ → ℕ) → ℕ → ℕ} (H : (ℕ → ℕ) → ℕ → ℕ) {w2 : List ℕ} {r : Temps} → Taken D pen base L w1 w2 f u r
+    pub taken-both : {D : (ℕ → ℕ) → ℕ → ℕ} (H : (ℕ → ℕ) → ℕ → ℕ) {w2 : List ℕ} → Taken D pen base L w1 w2 f next acc work acc
         → ((A C : ℕ) (G : ℕ → ℕ) → Limits A C base L → C + pen ≤ none → Curve A C base L ws f G → (j : ℕ) → j < L → min (raise (E G j) pen) (raise (D G j) pen) ≡ raise (H G j) pen)
-        → Taken H pen base L ws w2 f t r
+        → Taken H pen base L ws w2 f acc next work acc
     taken-both H d e = record {
-      order = order-then (k .order) (d .order);
-      spared = spared-then (k .spared) (spared-order (k .order) (d .spared));
+      place = inl refl;
+      spared = spared-then (k .spared) (spared-swap (d .spared));
       curve = λ A B C F G l h ca cf. curve-as (λ (j : ℕ). min (F j) (raise (H G j) pen))
           (λ j i. min-regroup (F j) _ _ _ (e A C G (lower-limits C (omega arith) l) (omega (arith, l .cost)) cf j i))
           (d .curve A B C _ G l h (k .curve A B C F G l h ca cf) (from-taken cf));
@@ -185,38 +184,38 @@ module _ {A C base L : ℕ} {ws : List ℕ} {f : ℕ} {G : ℕ → ℕ} (l : Lim
   unfolding edgeMin
   abs-is gap j g = raise-min (upMin gap G j) (downMin L gap G j) pen (edge-room (Up gap) j g) (edge-room (Down gap) j g)
 
-pub taken-as : {E : (ℕ → ℕ) → ℕ → ℕ} (D : (ℕ → ℕ) → ℕ → ℕ) {pen base L f : ℕ} {ws w1 : List ℕ} {t r : Temps} → ((G : ℕ → ℕ) (j : ℕ) → E G j ≡ D G j) → Taken E pen base L ws w1 f t r → Taken D pen base L ws w1 f t r
+pub taken-as : {E : (ℕ → ℕ) → ℕ → ℕ} (D : (ℕ → ℕ) → ℕ → ℕ) {pen base L f acc next work r : ℕ} {ws w1 : List ℕ} → ((G : ℕ → ℕ) (j : ℕ) → E G j ≡ D G j) → Taken E pen base L ws w1 f acc next work r → Taken D pen base L ws w1 f acc next work r
 taken-as D {pen} e k = record {
-  order = k .order;
+  place = k .place;
   spared = k .spared;
   curve = λ A B C F G l h ca cf. curve-as (λ (j : ℕ). min (F j) (raise (D G j) pen)) (λ j i. ap (λ (x : ℕ). min (F j) (raise x pen)) (e G j)) (k .curve A B C F G l h ca cf);
 }
 
-module _ {pen base L f : ℕ} {ws w1 : List ℕ} {t r : Temps} where
-  pub stay-edge : (k : Kind) → k ≡ Stay → Taken (λ (G : ℕ → ℕ). G) pen base L ws w1 f t r → Taken (edgeMin L k) pen base L ws w1 f t r
+module _ {pen base L f acc next work r : ℕ} {ws w1 : List ℕ} where
+  pub stay-edge : (k : Kind) → k ≡ Stay → Taken (λ (G : ℕ → ℕ). G) pen base L ws w1 f acc next work r → Taken (edgeMin L k) pen base L ws w1 f acc next work r
   unfolding edgeMin
   stay-edge k e = rw e (taken-as (edgeMin L Stay) (λ G j. refl))
 
-  pub any-edge : (k : Kind) → k ≡ Any → Taken (anyMin L) pen base L ws w1 f t r → Taken (edgeMin L k) pen base L ws w1 f t r
+  pub any-edge : (k : Kind) → k ≡ Any → Taken (anyMin L) pen base L ws w1 f acc next work r → Taken (edgeMin L k) pen base L ws w1 f acc next work r
   unfolding edgeMin
   any-edge k e = rw e (taken-as (edgeMin L Any) (λ G j. refl))
 
-  pub up-edge : (k : Kind) (g : ℕ) → k ≡ Up g → Taken (upMin g) pen base L ws w1 f t r → Taken (edgeMin L k) pen base L ws w1 f t r
+  pub up-edge : (k : Kind) (g : ℕ) → k ≡ Up g → Taken (upMin g) pen base L ws w1 f acc next work r → Taken (edgeMin L k) pen base L ws w1 f acc next work r
   unfolding edgeMin
   up-edge k g e = rw e (taken-as (edgeMin L (Up g)) (λ G j. refl))
 
-  pub down-edge : (k : Kind) (g : ℕ) → k ≡ Down g → Taken (downMin L g) pen base L ws w1 f t r → Taken (edgeMin L k) pen base L ws w1 f t r
+  pub down-edge : (k : Kind) (g : ℕ) → k ≡ Down g → Taken (downMin L g) pen base L ws w1 f acc next work r → Taken (edgeMin L k) pen base L ws w1 f acc next work r
   unfolding edgeMin
   down-edge k g e = rw e (taken-as (edgeMin L (Down g)) (λ G j. refl))
 
-pub abs-edge : {pen base L f : ℕ} {ws w1 w2 : List ℕ} {t u r : Temps} (k : Kind) (g : ℕ) → k ≡ Abs g → Ready t f pen base L ws → Taken (upMin g) pen base L ws w1 f t u → Taken (downMin L g) pen base L w1 w2 f u r → Taken (edgeMin L k) pen base L ws w2 f t r
+pub abs-edge : {pen base L f acc next work : ℕ} {ws w1 w2 : List ℕ} (k : Kind) (g : ℕ) → k ≡ Abs g → Ready acc next work f pen base L ws → Taken (upMin g) pen base L ws w1 f acc next work next → Taken (downMin L g) pen base L w1 w2 f next acc work acc → Taken (edgeMin L k) pen base L ws w2 f acc next work acc
 abs-edge {pen} {L = L} k g e y a b = rw e (taken-both y a (edgeMin L (Abs g)) b (λ A C G l h c j i. abs-is l c pen h g j i))
 
 -- a list that is none everywhere
-pub none-taken : {pen base L f : ℕ} {ws : List ℕ} (k : Kind) {t : Temps} → noneOnly ws f L ≡ true → Taken (edgeMin L k) pen base L ws ws f t t
-none-taken {pen} {base} {L} {f} {ws} k {t} e = record {
-  order = inl refl;
-  spared = spared-refl (t .acc) (t .next) (t .work) L ws;
+pub none-taken : {pen base L f acc next work : ℕ} {ws : List ℕ} (k : Kind) → noneOnly ws f L ≡ true → Taken (edgeMin L k) pen base L ws ws f acc next work acc
+none-taken {pen} {base} {L} {f} {acc} {next} {work} {ws} k e = record {
+  place = inl refl;
+  spared = spared-refl acc next work L ws;
   curve = λ A B C F G l h ca cf. curve-as (λ (j : ℕ). min (F j) (raise (edgeMin L k G j) pen)) (λ j i. left (F j) (edgeMin L k G j) (curve-most l ca j i) (offers (lower-limits C (omega arith) l) cf j i)) ca;
 }
   where

@@ -21,7 +21,6 @@ use Rattle.curve.specs.Curve.{Curve, Limits, less, curve-same, curve-costs, cur
 use Rattle.model.specs.Index.{noCost, prefixMin, suffixMin, upMin, downMin, edgeMin}
 use Rattle.model.specs.Held.{raise}
 use Rattle.model.specs.Model.{square, lossAt}
-use Rattle.layer.specs.declared.Temps.{Temps}
 
 -- what an edge of kind any makes of a list
 abbrev pub anyMin : ℕ → (ℕ → ℕ) → ℕ → ℕ
@@ -53,26 +52,26 @@ pub record Into (f next work L size : ℕ) : Type 0 where
   pub room-work : work + 4 * L ≤ size
 
 -- acc and g are read while next is written
-pub record Joint (t : Temps) (g L size : ℕ) : Type 0 where
-  pub acc-next : Apart (t .acc) (t .next) (4 * L)
-  pub g-next : Apart g (t .next) (4 * L)
-  pub room-next : t .next + 4 * L ≤ size
+pub record Joint (acc next g L size : ℕ) : Type 0 where
+  pub acc-next : Apart acc next (4 * L)
+  pub g-next : Apart g next (4 * L)
+  pub room-next : next + 4 * L ≤ size
 
--- the temporary lists and f share no word
-pub record Hand (t : Temps) (f L size : ℕ) : Type 0 where
-  pub into : Into f (t .next) (t .work) L size
-  pub acc-next : Apart (t .acc) (t .next) (4 * L)
-  pub acc-work : Apart (t .acc) (t .work) (4 * L)
-  pub f-acc : Apart f (t .acc) (4 * L)
-  pub room-acc : t .acc + 4 * L ≤ size
+-- the temporary lists and f share no word: acc is the least so far, the next one goes to next, and work is one to work in
+pub record Hand (acc next work f L size : ℕ) : Type 0 where
+  pub into : Into f next work L size
+  pub acc-next : Apart acc next (4 * L)
+  pub acc-work : Apart acc work (4 * L)
+  pub f-acc : Apart f acc (4 * L)
+  pub room-acc : acc + 4 * L ≤ size
 
 -- what is asked for an edge from the list at f: there is room for the penalty
-pub record Ready (t : Temps) (f pen base L : ℕ) (ws : List ℕ) : Type 0 where
-  pub hand : Hand t f L (length ws)
+pub record Ready (acc next work f pen base L : ℕ) (ws : List ℕ) : Type 0 where
+  pub hand : Hand acc next work f L (length ws)
   pub low : pen ≤ 18014398509481984
   pub some : 0 < L
   pub limits : Limits 1048576 18014398509481984 base L
-  pub acc : Sound 18014398509481984 base L ws (t .acc)
+  pub so-far : Sound 18014398509481984 base L ws acc
   pub from : Sound (18014398509481984 - pen) base L ws f
 
 -- ---- the contracts
@@ -82,24 +81,20 @@ pub record Moved (E : (ℕ → ℕ) → ℕ → ℕ) (base L : ℕ) (ws ws′ : 
   pub spared : Spared next work work L ws ws′
   pub curve : (A B : ℕ) (G : ℕ → ℕ) → Limits A B base L → Curve A B base L ws f G → Curve A B base L ws′ work (E G)
 
-abbrev pub swapped : Temps → Temps
-swapped t = record { acc = t .next; next = t .acc; work = t .work }
+-- next is the least of acc and of g with pen added
+pub record Joined (pen base L : ℕ) (ws ws′ : List ℕ) (g acc next : ℕ) : Type 0 where
+  pub kept : Kept ws ws′ next (4 * L)
+  pub curve : (A B C : ℕ) (F G : ℕ → ℕ) → Limits A B base L → C + pen ≤ B → Curve A B base L ws acc F → Curve A C base L ws g G → Curve A B base L ws′ next (λ (j : ℕ). min (F j) (raise (G j) pen))
 
--- next is the least of acc and of g with pen added, and is the new acc
-pub record Joined (pen base L : ℕ) (ws ws′ : List ℕ) (g : ℕ) (t r : Temps) : Type 0 where
-  pub order : r ≡ swapped t
-  pub kept : Kept ws ws′ (t .next) (4 * L)
-  pub curve : (A B C : ℕ) (F G : ℕ → ℕ) → Limits A B base L → C + pen ≤ B → Curve A B base L ws (t .acc) F → Curve A C base L ws g G → Curve A B base L ws′ (t .next) (λ (j : ℕ). min (F j) (raise (G j) pen))
+-- r is one of the two places
+abbrev pub OneOf : ℕ → ℕ → ℕ → Type 0
+OneOf a b r = (r ≡ a) ⊎ (r ≡ b)
 
--- r is t, with acc and next in this order or the other
-abbrev pub Order : Temps → Temps → Type 0
-Order t r = (r ≡ t) ⊎ (r ≡ swapped t)
-
--- the new acc is the least of acc and of f by E with pen added
-pub record Taken (E : (ℕ → ℕ) → ℕ → ℕ) (pen base L : ℕ) (ws ws′ : List ℕ) (f : ℕ) (t r : Temps) : Type 0 where
-  pub order : Order t r
-  pub spared : Spared (t .acc) (t .next) (t .work) L ws ws′
-  pub curve : (A B C : ℕ) (F G : ℕ → ℕ) → Limits A B base L → C + pen ≤ B → Curve A B base L ws (t .acc) F → Curve A C base L ws f G → Curve A B base L ws′ (r .acc) (λ (j : ℕ). min (F j) (raise (E G j) pen))
+-- r is acc or next, and there is now the least of acc and of f by E with pen added
+pub record Taken (E : (ℕ → ℕ) → ℕ → ℕ) (pen base L : ℕ) (ws ws′ : List ℕ) (f acc next work r : ℕ) : Type 0 where
+  pub place : OneOf acc next r
+  pub spared : Spared acc next work L ws ws′
+  pub curve : (A B C : ℕ) (F G : ℕ → ℕ) → Limits A B base L → C + pen ≤ B → Curve A B base L ws acc F → Curve A C base L ws f G → Curve A B base L ws′ r (λ (j : ℕ). min (F j) (raise (E G j) pen))
 
 -- dst is the list at f with w times the square of the distance from u
 pub record WithLoss (w u base L : ℕ) (ws ws′ : List ℕ) (f dst : ℕ) : Type 0 where
@@ -136,32 +131,40 @@ spared-kept s n x y z p = record {
 pub apart-swap : (o p len : ℕ) → Apart o p len → Apart p o len
 apart-swap o p len = ⊎-elim (λ h. inr h) (λ h. inl h)
 
-pub hand-swap : {t : Temps} {f L n : ℕ} → Hand t f L n → Hand (swapped t) f L n
-hand-swap {t} {f} {L} h = record {
+pub hand-swap : {a b w f L n : ℕ} → Hand a b w f L n → Hand b a w f L n
+hand-swap {a} {b} {L = L} h = record {
   into = record { f-next = h .f-acc; f-work = h .into .f-work; next-work = h .acc-work; room-next = h .room-acc; room-work = h .into .room-work };
-  acc-next = apart-swap (t .acc) (t .next) (4 * L) (h .acc-next);
+  acc-next = apart-swap a b (4 * L) (h .acc-next);
   acc-work = h .into .next-work;
   f-acc = h .into .f-next;
   room-acc = h .into .room-next;
 }
 
-pub hand-order : {t r : Temps} {f L n : ℕ} → Order t r → Hand t f L n → Hand r f L n
-hand-order {f = f} {L} {n} o h = ⊎-elim (λ e. subst (λ (x : Temps). Hand x f L n) (sym e) h) (λ e. subst (λ (x : Temps). Hand x f L n) (sym e) (hand-swap h)) o
+pub spared-swap : {a b w L : ℕ} {ws ws′ : List ℕ} → Spared b a w L ws ws′ → Spared a b w L ws ws′
+spared-swap s = record { size = s .size; word = λ i x y z. s .word i y x z }
 
-pub order-then : {t r s : Temps} → Order t r → Order r s → Order t s
-order-then {t} {r} {s} p q = ⊎-elim
-    (λ e. ⊎-elim (λ g. inl (g ∙ e)) (λ g. inr (g ∙ ap swapped e)) q)
-    (λ e. ⊎-elim (λ g. inr (g ∙ e)) (λ g. inl (g ∙ ap swapped e)) q)
-    p
+-- p and q are a and b, in this order or the other
+abbrev pub Order : ℕ → ℕ → ℕ → ℕ → Type 0
+Order a b p q = ((p ≡ a) × (q ≡ b)) ⊎ ((p ≡ b) × (q ≡ a))
 
-pub spared-order : {t r : Temps} {L : ℕ} {ws ws′ : List ℕ} → Order t r → Spared (r .acc) (r .next) (r .work) L ws ws′ → Spared (t .acc) (t .next) (t .work) L ws ws′
-spared-order {t} {r} {L} {ws} {ws′} o s = ⊎-elim
-    (λ e. subst (λ (x : Temps). Spared (x .acc) (x .next) (x .work) L ws ws′) e s)
-    (λ e. other (subst (λ (x : Temps). Spared (x .acc) (x .next) (x .work) L ws ws′) e s))
+-- the other of two places
+pub order-other : (a b p : ℕ) → OneOf a b p → Order a b p (a + b - p)
+order-other a b p = ⊎-elim (λ e. inl (e, omega arith)) (λ e. inr (e, omega arith))
+
+pub order-place : {a b p q r : ℕ} → Order a b p q → OneOf p q r → OneOf a b r
+order-place o x = ⊎-elim
+    (λ e. ⊎-elim (λ g. inl (g ∙ e .0)) (λ g. inr (g ∙ e .1)) x)
+    (λ e. ⊎-elim (λ g. inr (g ∙ e .0)) (λ g. inl (g ∙ e .1)) x)
     o
-  where
-    other : Spared (t .next) (t .acc) (t .work) L ws ws′ → Spared (t .acc) (t .next) (t .work) L ws ws′
-    other q = record { size = q .size; word = λ i x y z. q .word i y x z }
+
+pub hand-order : {a b p q w f L n : ℕ} → Order a b p q → Hand a b w f L n → Hand p q w f L n
+hand-order o h = ⊎-elim (λ e. rw (e .0, e .1) h) (λ e. rw (e .0, e .1) (hand-swap h)) o
+
+pub spared-order : {a b p q w L : ℕ} {ws ws′ : List ℕ} → Order a b p q → Spared p q w L ws ws′ → Spared a b w L ws ws′
+spared-order {a} {b} {p} {q} {w} {L} {ws} {ws′} o s = ⊎-elim
+    (λ e. rw (← e .0, ← e .1) s)
+    (λ e. spared-swap (rw (← e .0, ← e .1) s))
+    o
 
 -- ---- the model's numbers and the lists'
 pub less-min : (x y : ℕ) → less x y ≡ min x y

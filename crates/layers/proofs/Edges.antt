@@ -18,8 +18,7 @@ use Rattle.labels.specs.Boundary.{leadsFrom}
 use Rattle.curve.specs.Pieces.{piece}
 use Rattle.curve.specs.Lows.{costs}
 use Rattle.curve.specs.Curve.{Curve, Limits, curve-as, curve-most, curve-costs, curve-wider}
-use Rattle.layer.specs.declared.Temps.{Temps}
-use Rattle.layer.specs.Edge.{Ready, Hand, Order, Spared, Sound, spared-refl, spared-then, spared-curve, spared-order, hand-order, order-then, apart-swap}
+use Rattle.layer.specs.Edge.{Hand, Order, Sound, spared-refl, spared-then, spared-curve, spared-order, hand-order, order-other, order-place}
 use Rattle.layers.specs.declared.Shape.{Shape}
 use Rattle.layers.specs.Layer.{listAt}
 use Rattle.layers.specs.Step.{source, offered, edgeOf, leastOffered, MayTake, TookOne, EdgesReady, TookEdges}
@@ -33,14 +32,18 @@ unfolding minBelow
 min-one-more n f = ap (λ (m : ℕ). minBelow m f) (add-one n)
 
 module _ (o : Option Label) (t : ℕ) (es : List Edge) (k s cur : ℕ) (g : Shape) where
-  pub took-none : (ws : List ℕ) (temps : Temps) → TookEdges o t es 0 k s cur g ws ws temps temps
-  took-none ws temps = record {
-    order = inl refl;
+  pub took-none : (ws : List ℕ) (first second work : ℕ) → TookEdges o t es 0 k s cur g ws ws first second work first
+  took-none ws first second work = record {
+    place = inl refl;
     spared = spared-refl _ _ _ _ ws;
     curve = λ A B C F H l h c f. curve-as (λ (j : ℕ). min (F j) (leastOffered o t es 0 k s (g .levels) H j)) (λ j i. omega (arith, curve-most l c j i, min-nothing (λ (e : ℕ). offered o t (edgeOf es e) k s (g .levels) H j))) c;
   }
 
-  module _ {ws ws′ : List ℕ} {temps r : Temps} {n i : ℕ} (a : EdgesReady o t es n k s cur g temps ws) (h : i < n) (m : TookEdges o t es i k s cur g ws ws′ temps r) where
+  module _ {ws ws′ : List ℕ} {first second work r n i : ℕ} (a : EdgesReady o t es n k s cur g first second work ws) (h : i < n) (m : TookEdges o t es i k s cur g ws ws′ first second work r) where
+    -- the place that is free
+    other : Order first second r (first + second - r)
+    other = order-other first second r (m .place)
+
     -- a list that an edge comes from is as it was
     source-kept : {A C : ℕ} {F : ℕ → ℕ} (e : ℕ) → e < n → leadsFrom o t (edgeOf es e) k s ≡ true → Curve A C (g .base) (g .levels) ws (source o t (edgeOf es e) k cur g) F
         → Curve A C (g .base) (g .levels) ws′ (source o t (edgeOf es e) k cur g) F
@@ -52,12 +55,12 @@ module _ (o : Option Label) (t : ℕ) (es : List Edge) (k s cur : ℕ) (g : Shap
     abbrev kept-costs : Table
     kept-costs k′ s′ = costs (g .base) (piece ws (listAt cur (g .states) (g .levels) k′ s′) (g .levels))
 
-    acc-sound : Sound 18014398509481984 (g .base) (g .levels) ws′ (r .acc)
+    acc-sound : Sound 18014398509481984 (g .base) (g .levels) ws′ r
     acc-sound =
         curve-costs
-        (m .curve 1048576 18014398509481984 (18014398509481984 - penaltyMost) _ kept-costs (a .limits) (omega arith) (a .acc) (λ e he l. a .sound e (omega arith) l))
+        (m .curve 1048576 18014398509481984 (18014398509481984 - penaltyMost) _ kept-costs (a .limits) (omega arith) (a .so-far) (λ e he l. a .sound e (omega arith) l))
 
-    pub may-take : MayTake o t (edgeOf es i) k s cur g r ws′
+    pub may-take : MayTake o t (edgeOf es i) k s cur g r (first + second - r) work ws′
     may-take = record {
       small = a .small;
       boundary = a .boundary;
@@ -68,24 +71,24 @@ module _ (o : Option Label) (t : ℕ) (es : List Edge) (k s cur : ℕ) (g : Shap
       from = a .from i h;
       gap = a .gap i h;
       ready = λ l. record {
-        hand = subst (λ (z : ℕ). Hand r (source o t (edgeOf es i) k cur g) (g .levels) z) (sym (m .spared .size)) (hand-order (m .order) (a .hand i h l));
+        hand = subst (λ (z : ℕ). Hand r (first + second - r) work (source o t (edgeOf es i) k cur g) (g .levels) z) (sym (m .spared .size)) (hand-order other (a .hand i h l));
         low = omega (arith, penalty-most (edgeOf es i .class));
         some = a .some;
         limits = a .limits;
-        acc = acc-sound;
+        so-far = acc-sound;
         from = curve-costs (curve-wider 1048576 (18014398509481984 - penalty (edgeOf es i .class)) (omega arith) (omega (arith, penalty-most (edgeOf es i .class))) (source-kept i h l (a .sound i h l)));
       };
     }
 
-    pub took-more : {ws″ : List ℕ} {q : Temps} → TookOne o t (edgeOf es i) k s cur g ws′ ws″ r q → TookEdges o t es (i + 1) k s cur g ws ws″ temps q
+    pub took-more : {ws″ : List ℕ} {q : ℕ} → TookOne o t (edgeOf es i) k s cur g ws′ ws″ r (first + second - r) work q → TookEdges o t es (i + 1) k s cur g ws ws″ first second work q
     took-more {ws″} {q} w = record {
-      order = order-then (m .order) (w .order);
-      spared = spared-then (m .spared) (spared-order (m .order) (w .spared));
+      place = order-place other (w .place);
+      spared = spared-then (m .spared) (spared-order other (w .spared));
       curve = λ A B C F H l b c f.
           curve-as (λ (j : ℕ). min (F j) (leastOffered o t es (i + 1) k s (g .levels) H j))
           (λ j z. omega (arith, min-one-more i (λ (e : ℕ). offered o t (edgeOf es e) k s (g .levels) H j)))
           (w .curve A B C _ H l b (m .curve A B C F H l b c (λ e he. f e (omega arith))) (λ e. source-kept i h e (f i (omega arith) e)));
     }
 
-pub took-all : {o : Option Label} {t : ℕ} {es : List Edge} {i n k s cur : ℕ} {g : Shape} {ws ws′ : List ℕ} {temps r : Temps} → i ≡ n → TookEdges o t es i k s cur g ws ws′ temps r → TookEdges o t es n k s cur g ws ws′ temps r
-took-all {o} {t} {es} {i} {n} {k} {s} {cur} {g} {ws} {ws′} {temps} {r} e m = subst (λ (x : ℕ). TookEdges o t es x k s cur g ws ws′ temps r) e m
+pub took-all : {o : Option Label} {t : ℕ} {es : List Edge} {i n k s cur : ℕ} {g : Shape} {ws ws′ : List ℕ} {first second work r : ℕ} → i ≡ n → TookEdges o t es i k s cur g ws ws′ first second work r → TookEdges o t es n k s cur g ws ws′ first second work r
+took-all {o} {t} {es} {i} {n} {k} {s} {cur} {g} {ws} {ws′} {first} {second} {work} {r} e m = subst (λ (x : ℕ). TookEdges o t es x k s cur g ws ws′ first second work r) e m

@@ -28,8 +28,7 @@ use Rattle.quadratic.specs.Quad.{none, flat}
 use Rattle.quadratic.specs.Fine.{far, square-most}
 use Rattle.curve.specs.Pieces.{Kept, Made, Apart}
 use Rattle.curve.specs.Curve.{Curve, Limits, curve-as, curve-kept, curve-costs, curve-wider, curve-flat, near}
-use Rattle.layer.specs.declared.Temps.{Temps}
-use Rattle.layer.specs.Edge.{Hand, Order, Spared, Sound, Off, WithLoss, loss-place, swapped}
+use Rattle.layer.specs.Edge.{Hand, Spared, Sound, Off, WithLoss, loss-place}
 use Rattle.layers.specs.declared.Shape.{Shape}
 use Rattle.layers.specs.Layer.{stepMost, baseOf, listAt, Shape-small, ShapeOf, Layer}
 use Rattle.layers.specs.Step.{source, offered, offered-by, edgeOf, leastOffered, EdgesReady, TookEdges}
@@ -97,9 +96,6 @@ module _ {P : Plan} {zs : List ℤ} {g : Shape} (a : Task P zs g) where
 pub reading-is : (z : ℤ) (u : ℕ) → mag z < 2 ^ hbits w16 → pos u ≡ toZ w16 (ofZ w16 z) +ℤ pos 163840 → pos u ≡ z +ℤ pos 163840
 reading-is z u h e = let f : SFits w16 z = record { sfits = h } in rw (toZ-ofZ f) at e
 
-abbrev pub firstTemps : ℕ → ℕ → Temps
-firstTemps free size = record { acc = free; next = free + size; work = free + 2 * size }
-
 module _ {P : Plan} {zs : List ℤ} {o : Option Label} {t cur dst free k s : ℕ} {g : Shape} {ws : List ℕ} (a : NextReady P zs o t cur dst free k s g ws) where
   abbrev size : ℕ
   size = 4 * g .levels
@@ -140,7 +136,7 @@ module _ {P : Plan} {zs : List ℤ} {o : Option Label} {t cur dst free k s : ℕ
     acc-none : {A B : ℕ} → Curve A B (g .base) (g .levels) w1 free (λ (j : ℕ). none)
     acc-none = curve-flat (inl refl) (omega (arith, a .room, a .task .shape .levels)) m1
 
-    pub edges-ready : EdgesReady o t (P .edges) (P .edgecount) k s cur g (firstTemps free size) w1
+    pub edges-ready : EdgesReady o t (P .edges) (P .edgecount) k s cur g free (free + size) (free + 2 * size) w1
     edges-ready = record {
       small = shape-small (a .task);
       boundary = omega (arith, few);
@@ -149,7 +145,7 @@ module _ {P : Plan} {zs : List ℤ} {o : Option Label} {t cur dst free k s : ℕ
       limits = limits (a .task) 1048576 18014398509481984 (omega arith) (omega arith);
       few = a .task .checked .few-edges;
       some = some-levels (a .task);
-      acc = curve-costs acc-none;
+      so-far = curve-costs acc-none;
       from = λ e h. omega (arith, a .task .checked .edge e h .from-below, a .task .checked .few-states);
       gap = λ e h. a .task .checked .edge e h .gap-low;
       before = λ e h l. before-low e l;
@@ -163,31 +159,28 @@ module _ {P : Plan} {zs : List ℤ} {o : Option Label} {t cur dst free k s : ℕ
       sound = λ e h l. curve-costs (curve-wider 1048576 (18014398509481984 - penaltyMost) (omega (arith, few)) most (source-kept e h l));
     }
 
-    module _ {w2 : List ℕ} {r : Temps} (m2 : TookEdges o t (P .edges) (P .edgecount) k s cur g w1 w2 (firstTemps free size) r) where
-      where-acc : (r .acc ≡ free) ⊎ (r .acc ≡ free + size)
-      where-acc = ⊎-elim (λ e. inl (ap (λ (x : Temps). x .acc) e)) (λ e. inr (ap (λ (x : Temps). x .acc) e)) (m2 .order)
-
+    module _ {w2 : List ℕ} {r : ℕ} (m2 : TookEdges o t (P .edges) (P .edgecount) k s cur g w1 w2 free (free + size) (free + 2 * size) r) where
       -- the least over the edges
-      acc-least : Curve t (t * stepMost + penaltyMost) (g .base) (g .levels) w2 (r .acc) (λ (j : ℕ). min none (leastOffered o t (P .edges) (P .edgecount) k s (g .levels) (tableAt P zs t) j))
+      acc-least : Curve t (t * stepMost + penaltyMost) (g .base) (g .levels) w2 r (λ (j : ℕ). min none (leastOffered o t (P .edges) (P .edgecount) k s (g .levels) (tableAt P zs t) j))
       acc-least =
           m2 .curve t (t * stepMost + penaltyMost) (t * stepMost) (λ (j : ℕ). none) (tableAt P zs t) (limits (a .task) _ _ (omega (arith, few)) (omega (arith, most))) (omega arith) acc-none
           (λ e h l. source-kept e h l)
 
-      dst-apart : Apart (r .acc) dst (4 * g .levels)
-      dst-apart = inr (⊎-elim (λ e. omega (arith, a .under, a .task .shape .levels)) (λ e. omega (arith, a .under, a .task .shape .levels)) where-acc)
+      dst-apart : Apart r dst (4 * g .levels)
+      dst-apart = inr (⊎-elim (λ e. omega (arith, a .under, a .task .shape .levels)) (λ e. omega (arith, a .under, a .task .shape .levels)) (m2 .place))
 
       dst-room : dst + 4 * g .levels ≤ length w2
       dst-room = omega (arith, a .under, a .task .shape .levels, a .room, m1 .kept .size, m2 .spared .size)
 
-      acc-sound : Sound 18014398509481984 (g .base) (g .levels) w2 (r .acc)
+      acc-sound : Sound 18014398509481984 (g .base) (g .levels) w2 r
       acc-sound = curve-costs (curve-wider 1048576 18014398509481984 (omega (arith, few)) (omega (arith, most)) acc-least)
 
       pub reading-ready : {u : ℕ} → (131072 ≤ u) × (u < 196608)
-          → ((Apart (r .acc) dst (4 * g .levels) × (dst + 4 * g .levels ≤ length w2)) × ((((131072 ≤ u) × (u < 196608)) × ((1 < 256) × (g .base + g .levels ≤ 196608))) × (Limits 1048576 18014398509481984 (g .base) (g .levels) × Sound 18014398509481984 (g .base) (g .levels) w2 (r .acc))))
+          → ((Apart r dst (4 * g .levels) × (dst + 4 * g .levels ≤ length w2)) × ((((131072 ≤ u) × (u < 196608)) × ((1 < 256) × (g .base + g .levels ≤ 196608))) × (Limits 1048576 18014398509481984 (g .base) (g .levels) × Sound 18014398509481984 (g .base) (g .levels) w2 r)))
       reading-ready h =
           ((dst-apart, dst-room), ((h, (omega arith, omega (arith, a .task .shape .base, a .task .shape .levels, a .task .high))), (limits (a .task) 1048576 18014398509481984 (omega arith) (omega arith), acc-sound)))
 
-      module _ (u : ℕ) (at : pos u ≡ getD zs t (pos 0) +ℤ pos 163840) {w3 : List ℕ} (m3 : WithLoss 1 u (g .base) (g .levels) w2 w3 (r .acc) dst) where
+      module _ (u : ℕ) (at : pos u ≡ getD zs t (pos 0) +ℤ pos 163840) {w3 : List ℕ} (m3 : WithLoss 1 u (g .base) (g .levels) w2 w3 r dst) where
         value-is : (j : ℕ) → raise (min none (leastOffered o t (P .edges) (P .edgecount) k s (g .levels) (tableAt P zs t) j)) (1 * (far u (g .base + j) * far u (g .base + j))) ≡ tableAt P zs (suc t) k s j
         unfolding nextTable
         value-is j =

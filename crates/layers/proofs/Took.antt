@@ -15,26 +15,25 @@ use Rattle.model.specs.Index.{noCost, edgeMin}
 use Rattle.model.specs.Held.{penaltyMost, penalty-most, Table}
 use Rattle.labels.specs.Boundary.{leadsFrom}
 use Rattle.curve.specs.Curve.{Curve, Limits, curve-as, curve-most}
-use Rattle.layer.specs.declared.Temps.{Temps}
 use Rattle.layer.specs.Edge.{Ready, Taken, spared-refl}
 use Rattle.layers.specs.declared.Shape.{Shape}
 use Rattle.layers.specs.Layer.{Shape-small, listAt}
 use Rattle.layers.specs.Step.{source, offered, MayTake, TookOne}
 
 module _ (o : Option Label) (t : ℕ) (x : Edge) (k s cur : ℕ) (g : Shape) where
-  pub took-not : (ws : List ℕ) (temps : Temps) → leadsFrom o t x k s ≡ false → TookOne o t x k s cur g ws ws temps temps
+  pub took-not : (ws : List ℕ) (acc next work : ℕ) → leadsFrom o t x k s ≡ false → TookOne o t x k s cur g ws ws acc next work acc
   unfolding offered
-  took-not ws temps e = record {
-    order = inl refl;
+  took-not ws acc next work e = record {
+    place = inl refl;
     spared = spared-refl _ _ _ _ ws;
     curve = λ A B C F H l h c f. curve-as (λ (j : ℕ). min (F j) (offered o t x k s (g .levels) H j)) (λ j i. rw e (omega (arith, curve-most l c j i))) c;
   }
 
-  pub took-so : {ws ws′ : List ℕ} {temps r : Temps} → leadsFrom o t x k s ≡ true → (f pen : ℕ) → f ≡ source o t x k cur g → pen ≡ penalty (x .class)
-      → Taken (edgeMin (g .levels) (x .kind)) pen (g .base) (g .levels) ws ws′ f temps r → TookOne o t x k s cur g ws ws′ temps r
+  pub took-so : {ws ws′ : List ℕ} {acc next work r : ℕ} → leadsFrom o t x k s ≡ true → (f pen : ℕ) → f ≡ source o t x k cur g → pen ≡ penalty (x .class)
+      → Taken (edgeMin (g .levels) (x .kind)) pen (g .base) (g .levels) ws ws′ f acc next work r → TookOne o t x k s cur g ws ws′ acc next work r
   unfolding offered
-  took-so {ws} {ws′} {temps} {r} e f pen ef ep m = record {
-    order = m .order;
+  took-so {ws} e f pen ef ep m = record {
+    place = m .place;
     spared = m .spared;
     curve = λ A B C F H l h c d.
         curve-as (λ (j : ℕ). min (F j) (offered o t x k s (g .levels) H j)) (λ j i. rw (e, ep) refl)
@@ -56,6 +55,6 @@ list-low S L k s hS hL hk hs =
 pub source-is : (o : Option Label) (t : ℕ) (x : Edge) (k cur : ℕ) (g : Shape) (c f : ℕ) → c ≡ countBefore o t (x .kind) k → f ≡ listAt cur (g .states) (g .levels) c (x .from) → f ≡ source o t x k cur g
 source-is o t x k cur g c f ec ef = ef ∙ ap (λ (n : ℕ). listAt cur (g .states) (g .levels) n (x .from)) ec
 
-pub ready-is : (o : Option Label) (t : ℕ) (x : Edge) (k s cur : ℕ) (g : Shape) (temps : Temps) (ws : List ℕ) (f pen : ℕ) → leadsFrom o t x k s ≡ true → f ≡ source o t x k cur g → pen ≡ penalty (x .class)
-    → MayTake o t x k s cur g temps ws → Ready temps f pen (g .base) (g .levels) ws
-ready-is o t x k s cur g temps ws f pen e ef ep m = rw (ef, ep) (m .ready e)
+pub ready-is : (o : Option Label) (t : ℕ) (x : Edge) (k s cur : ℕ) (g : Shape) (acc next work : ℕ) (ws : List ℕ) (f pen : ℕ) → leadsFrom o t x k s ≡ true → f ≡ source o t x k cur g → pen ≡ penalty (x .class)
+    → MayTake o t x k s cur g acc next work ws → Ready acc next work f pen (g .base) (g .levels) ws
+ready-is o t x k s cur g acc next work ws f pen e ef ep m = rw (ef, ep) (m .ready e)

@@ -1,7 +1,6 @@
 // Layers: the least costs of all counts, states and levels after some readings, one list for each count and state.
 // All functions here are inner ones: their `requires` say what stands where in the workspace.
 use labels::Cover;
-use layer::Temps;
 use plan::Edge;
 use plan::Plan;
 ghost use mathlib.Core.Path.{_≡_};
@@ -39,10 +38,13 @@ pub fn in_set(mask: u8, s: usize) -> bool
     (mask as u16) / bit % 2 == 1
 }
 
-// The least so far of list (k, s), with an edge taken in that leads there at boundary t from the layer at cur.
+// The least so far of list (k, s), with an edge taken in that leads there at boundary t from the layer at cur: where it stands, which is
+// acc or next.
 fn take_one(
     ws: &mut [u64],
-    temps: Temps,
+    acc: usize,
+    next: usize,
+    work: usize,
     e: Edge,
     on: Cover,
     t: usize,
@@ -50,23 +52,25 @@ fn take_one(
     k: usize,
     s: usize,
     g: Shape,
-) -> Temps
-    requires { ⌜ MayTake (labelOf on) t e k s cur g temps (now ws) ⌝ }
+) -> usize
+    requires { ⌜ MayTake (labelOf on) t e k s cur g acc next work (now ws) ⌝ }
     requires { ⌜ leadsFrom (labelOf on) t e k s ≡ true ⌝ }
-    ensures { λ r. ⌜ TookOne (labelOf on) t e k s cur g (now (ws .entry)) (now (ws .exit)) temps r ⌝ }
+    ensures { λ r. ⌜ TookOne (labelOf on) t e k s cur g (now (ws .entry)) (now (ws .exit)) acc next work r ⌝ }
 {
     let kind = e.kind;
     let before = labels::count_before(on, t, kind, k);
     let f = list_at(cur, g, before, e.from as usize);
     let pen = plan::penalty_of(e.class);
-    layer::take_edge(ws, temps, f, kind, pen, g.levels, g.base)
+    layer::take_edge(ws, acc, next, work, f, kind, pen, g.levels, g.base)
 }
 
-// The least over the first n edges, taken one by one into the least so far. Most edges do not lead to (k, s): they are passed over here,
-// so that the places of the temporary lists stay where they are and do not go through a call for each.
+// The least over the first n edges, taken one by one into the least so far: where it stands, which is first or second. Most edges do not
+// lead to (k, s): they are passed over here, so that no call is made for them.
 fn take_edges(
     ws: &mut [u64],
-    first: Temps,
+    first: usize,
+    second: usize,
+    work: usize,
     edges: [Edge; 32],
     n: usize,
     on: Cover,
@@ -75,20 +79,22 @@ fn take_edges(
     k: usize,
     s: usize,
     g: Shape,
-) -> Temps
-    requires { ⌜ EdgesReady (labelOf on) t edges n k s cur g first (now ws) ⌝ }
-    ensures { λ r. ⌜ TookEdges (labelOf on) t edges n k s cur g (now (ws .entry)) (now (ws .exit)) first r ⌝ }
+) -> usize
+    requires { ⌜ EdgesReady (labelOf on) t edges n k s cur g first second work (now ws) ⌝ }
+    ensures { λ r. ⌜ TookEdges (labelOf on) t edges n k s cur g (now (ws .entry)) (now (ws .exit)) first second work r ⌝ }
 {
-    let mut temps = first;
+    let mut acc = first;
     let mut i = 0;
     while i < n {
         let e = edges[i];
         i += 1;
         if labels::leads(on, t, e, k, s) {
-            temps = take_one(ws, temps, e, on, t, cur, k, s, g);
+            // The other of the two places.
+            let next = first + second - acc;
+            acc = take_one(ws, acc, next, work, e, on, t, cur, k, s, g);
         }
     }
-    temps
+    acc
 }
 
 // List (k, s) of the layer after t + 1 readings, at dst, from the layer after t readings at cur: the least over the edges, and the
@@ -112,15 +118,22 @@ fn next_list(
     let levels = g.levels;
     let base = g.base;
     let size = 4 * (levels as usize);
-    let first = Temps {
-        acc: free,
-        next: free + size,
-        work: free + 2 * size,
-    };
     curve::constant(ws, free, levels, quadratic::NONE);
     let edges = plan.edges;
-    let temps = take_edges(ws, first, edges, plan.edgecount, on, t, cur, k, s, g);
-    let acc = temps.acc;
+    let acc = take_edges(
+        ws,
+        free,
+        free + size,
+        free + 2 * size,
+        edges,
+        plan.edgecount,
+        on,
+        t,
+        cur,
+        k,
+        s,
+        g,
+    );
     let u = integers::bias(readings[t]);
     layer::add_reading(ws, acc, u, 1, dst, levels, base);
 }

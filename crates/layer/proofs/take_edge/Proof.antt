@@ -18,7 +18,7 @@ enum-told : tie.Need-enum-told
 enum-told c = search needs
 
 take-requires : tie.Need-take-requires
-take-requires c κs = let s = c .before .before .before .before .before .before .before in ((ready-stay (s .pre .0), s .pre .0 .low), (s .pre .0 .limits, (s .pre .0 .acc, s .pre .0 .from)))
+take-requires c κs = let s = c .before .before .before .before .before .before .before in ((ready-stay (s .pre .0), s .pre .0 .low), (s .pre .0 .limits, (s .pre .0 .so-far, s .pre .0 .from)))
 
 enum-told-2 : tie.Need-enum-told-2
 enum-told-2 c = search needs

@@ -12,51 +12,39 @@ use Rattle.integers.proofs.bias.Reads as bias-reads
 use Rattle.layer.proofs.add_reading.Reads as add-reading-reads
 use Rattle.layers.proofs.take_edges.Reads as take-edges-reads
 
--- src/lib.rt:112:16
 mul-size : tie.Need-mul-size
 mul-size c = search needs
 
--- src/lib.rt:115:15
-add-bias : tie.Need-add-bias
-add-bias c = search needs
-
--- src/lib.rt:116:22
-mul-t21 : tie.Need-mul-t21
-mul-t21 c = search needs
-
--- src/lib.rt:116:15
-add-t22 : tie.Need-add-t22
-add-t22 c = search needs
-
--- src/lib.rt:118:5
 constant-requires : tie.Need-constant-requires
 constant-requires c κs = search needs
 
--- src/lib.rt:120:9
+add-take-edges : tie.Need-add-take-edges
+add-take-edges c = search needs
+
+mul-take-edges : tie.Need-mul-take-edges
+mul-take-edges c = search needs
+
+add-take-edges-2 : tie.Need-add-take-edges-2
+add-take-edges-2 c = search needs
+
 take-edges-requires : tie.Need-take-edges-requires
 take-edges-requires c κs = edges-ready (c .before .before .before .before .before .before .before .pre) (c .before .before .before .before .constant .ensures)
 
--- src/lib.rt:122:28
 mul-bias : tie.Need-mul-bias
 mul-bias c = search needs
 
--- src/lib.rt:122:28
 shared-slice-copy-out-bias : tie.Need-shared-slice-copy-out-bias
 shared-slice-copy-out-bias c = search needs
 
--- src/lib.rt:122:9
 bias-requires : tie.Need-bias-requires
 bias-requires c κs = search needs
 
--- src/lib.rt:123:5
 add-reading-requires : tie.Need-add-reading-requires
 add-reading-requires c κs = reading-ready (c .before .before .before .before .before .before .before .before .before .before .before .before .before .pre) (c .before .before .before .before .before .before .before .before .before .before .constant .ensures) (c .before .before .before .before .before .take-edges .ensures) (c .before .bias .ensures .1)
 
--- src/lib.rt:94:1
 same-length : tie.Need-same-length
 same-length c = search needs
 
--- src/lib.rt:94:1
 returns : tie.Need-returns
 returns c = next-list (c .before .before .before .before .before .before .before .before .before .before .before .before .before .before .before .before .pre) (c .before .before .before .before .before .before .before .before .before .before .before .before .before .constant .ensures) (c .before .before .before .before .before .before .before .before .take-edges .ensures) _ (reading-is (getD (c .before .before .before .before .before .before .before .before .before .before .before .before .before .before .before .before .args .readings .now) (c .before .before .before .before .before .before .before .before .before .before .before .before .before .before .before .before .args .t) (pos 0)) _ (c .before .before .before .before .before .bias-arg .given) (c .before .before .before .before .bias .ensures .0)) (c .before .before .add-reading .ensures)
 
@@ -65,10 +53,10 @@ next-list-spec =
     tie.close
     (tie.spec
     mul-size
-    add-bias
-    mul-t21
-    add-t22
     constant-requires
+    add-take-edges
+    mul-take-edges
+    add-take-edges-2
     take-edges-requires
     mul-bias
     shared-slice-copy-out-bias

@@ -18,7 +18,7 @@ penalty-of-requires : tie.Need-penalty-of-requires
 penalty-of-requires c κs = search needs
 
 take-edge-requires : tie.Need-take-edge-requires
-take-edge-requires c κs = (ready-is _ _ (c .before .before .before .before .before .before .args .e) _ _ _ (c .before .before .before .before .before .before .args .g) _ _ _ _ (c .before .before .before .before .before .before .pre .1) (source-is _ _ (c .before .before .before .before .before .before .args .e) _ _ (c .before .before .before .before .before .before .args .g) _ _ (c .before .before .before .before .count-before .ensures .0) (c .before .before .list-at .ensures)) (c .before .penalty-of .ensures) (c .before .before .before .before .before .before .pre .0), c .before .before .before .before .before .before .pre .0 .gap)
+take-edge-requires c κs = (ready-is _ _ (c .before .before .before .before .before .before .args .e) _ _ _ (c .before .before .before .before .before .before .args .g) _ _ _ _ _ _ (c .before .before .before .before .before .before .pre .1) (source-is _ _ (c .before .before .before .before .before .before .args .e) _ _ (c .before .before .before .before .before .before .args .g) _ _ (c .before .before .before .before .count-before .ensures .0) (c .before .before .list-at .ensures)) (c .before .penalty-of .ensures) (c .before .before .before .before .before .before .pre .0), c .before .before .before .before .before .before .pre .0 .gap)
 
 same-length : tie.Need-same-length
 same-length c = search needs
