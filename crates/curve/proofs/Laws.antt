@@ -11,7 +11,7 @@ use Rattle.quadratic.specs.declared.Quad.{Quad}
 use mathlib.Core.Bool.{Bool, true, false}
 use lib.Dec.{eqb, leb}
 use borrow.Author.Tests.{le-leb, lt-leb}
-use Rattle.quadratic.specs.Quad.{Small, Sized, Fine, Stays, Under, Over, up, down, value, pick, better, raised, none, flat, moved, mirrored}
+use Rattle.quadratic.specs.Quad.{Small, Sized, Fine, Stays, Under, Over, value, pick, better, raised, none, flat, moved, mirrored}
 use Rattle.curve.specs.Pieces.{endOf, startOf, quadAt, piece, Formed, Built, Is, Kept, Same, Stored, Appended, Emits, Made, Held, Lent, shiftOf, mirrorOf, Turnable, Yields}
 use Rattle.curve.specs.Lists.{last-or, start-next, start-zero, count-le, end-lt, piece-at, same-quad, built-put, built-longer, kept-same, kept-refl, kept-then, kept-wider, kept-lent, same-end, same-start, opened, count-same, count-most, built-most, emits-none, emits-append}
 
@@ -93,21 +93,27 @@ small s = record { count = s .count; sum = s .sum; rest = omega (arith, s .rest)
 pub small-more : {q : Quad} → Sized q → Small (record { a = q .a; z = q .z; c = q .c + 1 })
 small-more s = record { count = s .count; sum = s .sum; rest = omega (arith, s .rest) }
 
-pub better-first : (p q : Quad) (base a y r : ℕ) → Stays p q (base + a) (base + y) r → (j : ℕ) → a ≤ j → j ≤ r - base → p ≡ better (base + j) p q
-better-first p q base a y r t j u v = sym (ap (λ (b : Bool). pick b p q) (le-leb _ _ (t .under (base + j) (omega arith) (omega (arith, t .low)))))
+-- one level alone, and a crossing counted from base
+pub stays-one : (p q : Quad) (base a y : ℕ) → a ≡ y → Under p q (base + a) → Stays p q (base + a) (base + y) (base + y)
+stays-one p q base a y e h = record {
+  low = omega arith;
+  high = omega arith;
+  under = λ m u v. let d : base + a ≡ m = omega arith in subst (λ (t : ℕ). Under p q t) d h;
+  last = λ u. absurd (omega arith);
+}
 
-pub better-second : (p q : Quad) (base a y r : ℕ) → Stays (record { a = q .a; z = q .z; c = q .c + 1 }) p (base + a) (base + y) r → (j : ℕ) → a ≤ j → j ≤ r - base → q ≡ better (base + j) p q
+pub stays-from : (p q : Quad) (base a y r : ℕ) → Stays p q (base + a) (base + y) r → Stays p q (base + a) (base + y) (base + (r - base))
+stays-from p q base a y r t =
+    let e : r ≡ base + (r - base) = omega (arith, t .low) in
+    subst (λ (k : ℕ). Stays p q (base + a) (base + y) k) e t
+
+pub better-first : (p q : Quad) (base a y r : ℕ) → Stays p q (base + a) (base + y) (base + r) → (j : ℕ) → a ≤ j → j ≤ r → p ≡ better (base + j) p q
+better-first p q base a y r t j u v = sym (ap (λ (b : Bool). pick b p q) (le-leb _ _ (t .under (base + j) (omega arith) (omega arith))))
+
+pub better-second : (p q : Quad) (base a y r : ℕ) → Stays (record { a = q .a; z = q .z; c = q .c + 1 }) p (base + a) (base + y) (base + r) → (j : ℕ) → a ≤ j → j ≤ r → q ≡ better (base + j) p q
 better-second p q base a y r t j u v =
-    let o : Over p q (base + j) = omega (arith, t .under (base + j) (omega arith) (omega (arith, t .low))) in
+    let o : Over p q (base + j) = omega (arith, t .under (base + j) (omega arith) (omega arith)) in
     sym (ap (λ (b : Bool). pick b p q) (lt-leb _ _ o))
-
--- at one level, by the test alone
-module _ {ws ws′ : List ℕ} {dst n end r : ℕ} (p q : Quad) (v : ℕ) where
-  pub appended-first : leb (up p v + down q v) (up q v + down p v) ≡ true → Appended ws ws′ dst n end p r → Appended ws ws′ dst n end (better v p q) r
-  appended-first h a = subst (λ (t : Quad). Appended ws ws′ dst n end t r) (sym (ap (λ (b : Bool). pick b p q) h)) a
-
-  pub appended-second : leb (up p v + down q v) (up q v + down p v) ≡ false → Appended ws ws′ dst n end q r → Appended ws ws′ dst n end (better v p q) r
-  appended-second h a = subst (λ (t : Quad). Appended ws ws′ dst n end t r) (sym (ap (λ (b : Bool). pick b p q) h)) a
 
 small-pick : (b : Bool) (k : ℕ) (q : Quad) → Sized (pick b q (record { a = q .a; z = q .z; c = q .c + k })) → Small q
 small-pick true k q s = small s

@@ -16,7 +16,7 @@ ghost use mathlib.Core.Bool.{true, false};
 ghost use mathlib.Core.Logic.{_⊎_};
 ghost use Prim.Native.Nat.{ℕ, _+_, _*_, _-_, _≤_, _<_};
 ghost use lib.ListN.{length, getD};
-ghost use Rattle.quadratic.specs.Quad.{Small, Sized, Fine, raised, pushed, moved, mirrored, better, value, flat, none, up, down, Over};
+ghost use Rattle.quadratic.specs.Quad.{Small, Sized, Fine, raised, pushed, moved, mirrored, better, value, flat, none, up, down, Under, Over, Stays};
 ghost use Rattle.curve.specs.Lows.{LeastIn, Drops, Prefixed, Lowered, prefixOf, costs, lowest};
 ghost use Rattle.curve.specs.Pieces.{Yields, noneOnly, quadAt, Kept, Built, Is, Formed, piece, Stored, Appended, Emits, Made, Apart, Held, Lent, Copyable, Copied, startOf, endOf, endsBelow, shiftOf, mirrorOf, Turnable};
 
@@ -43,13 +43,14 @@ fn store(ws: &mut [u64], at: usize, end: u64, q: Quad)
     ws[at + 3] = q.c;
 }
 
-// Whether two quadratics are the same.
+// Whether two quadratics are the same. Where they differ c nearly always does: with c first the other two tests are hardly reached, and
+// the branch is foretold.
 fn same(p: Quad, q: Quad) -> bool
     ensures { λ r. ⌜ (r ≡ true → p ≡ q) ⌝ }
 {
-    if p.a == q.a {
-        if p.z == q.z {
-            if p.c == q.c {
+    if p.c == q.c {
+        if p.a == q.a {
+            if p.z == q.z {
                 return true;
             }
         }
@@ -75,20 +76,55 @@ pub fn append(ws: &mut [u64], dst: usize, n: usize, end: u64, q: Quad) -> usize
     n + 1
 }
 
-// The better of p and q at the level y, p where they are equal.
-fn least_at(ws: &mut [u64], dst: usize, n: usize, p: Quad, q: Quad, y: u64, base: u64) -> usize
-    requires { ⌜ (Sized p × Sized q) × (base + y < 262144) ⌝ }
-    requires { ⌜ dst + 4 * (n + 1) ≤ length (now ws) ⌝ }
-    ensures { λ r. ⌜ Appended (now (ws .entry)) (now (ws .exit)) dst n y (better (base + y) p q) r ⌝ }
+// How far from a to y p stays at most q, which it is at a. Many stretches have one level: no crossing is looked for there. The copies
+// keep the callee's two quadratics out of memory where it is not called.
+fn reach(p: Quad, q: Quad, a: u64, y: u64, base: u64) -> u64
+    requires { ⌜ (Small p × Small q) × ((a ≤ y) × (base + y < 262144)) ⌝ }
+    requires { ⌜ Under p q (base + a) ⌝ }
+    ensures { λ r. ⌜ Stays p q (base + a) (base + y) (base + r) ⌝ }
 {
-    if quadratic::under(p, q, base + y) {
-        return append(ws, dst, n, y, p);
+    if a == y {
+        return y;
     }
-    append(ws, dst, n, y, q)
+    let w = Quad {
+        a: p.a,
+        z: p.z,
+        c: p.c,
+    };
+    let l = Quad {
+        a: q.a,
+        z: q.z,
+        c: q.c,
+    };
+    quadratic::crossing(w, l, base + a, base + y) - base
 }
 
-// The better of p and q at the levels from x to y, p where they are equal. Many stretches have one level, and many end in one that is
-// left over: no crossing is looked for there.
+// Levels up to an end at which one quadratic is the better one.
+struct Stretch {
+    winner: Quad,
+    end: u64,
+}
+
+// The better of p and q at the level a, p where they are equal, and how far to y it stays so.
+fn next_stretch(p: Quad, q: Quad, a: u64, y: u64, base: u64) -> Stretch
+    requires { ⌜ (Sized p × Sized q) × ((a ≤ y) × (base + y < 262144)) ⌝ }
+    ensures { λ r. ⌜ ((a ≤ r .end) × (r .end ≤ y)) × ((j : ℕ) → a ≤ j → j ≤ r .end → r .winner ≡ better (base + j) p q) ⌝ }
+{
+    if quadratic::under(p, q, base + a) {
+        let s = reach(p, q, a, y, base);
+        return Stretch { winner: p, end: s };
+    }
+    let q1 = Quad {
+        a: q.a,
+        z: q.z,
+        c: q.c + 1,
+    };
+    let t = reach(q1, p, a, y, base);
+    Stretch { winner: q, end: t }
+}
+
+// The better of p and q at the levels from x to y, p where they are equal. Which one it is cannot be foretold, so that both go through
+// one `append`.
 fn least_on(
     ws: &mut [u64],
     dst: usize,
@@ -105,24 +141,10 @@ fn least_on(
 {
     let mut a = x;
     let mut k = n;
-    while a < y {
-        if quadratic::under(p, q, base + a) {
-            let s = quadratic::crossing(p, q, base + a, base + y) - base;
-            k = append(ws, dst, k, s, p);
-            a = s + 1;
-        } else {
-            let q1 = Quad {
-                a: q.a,
-                z: q.z,
-                c: q.c + 1,
-            };
-            let s = quadratic::crossing(q1, p, base + a, base + y) - base;
-            k = append(ws, dst, k, s, q);
-            a = s + 1;
-        }
-    }
-    if a == y {
-        return least_at(ws, dst, k, p, q, y, base);
+    while a <= y {
+        let r = next_stretch(p, q, a, y, base);
+        k = append(ws, dst, k, r.end, r.winner);
+        a = r.end + 1;
     }
     k
 }

@@ -9,27 +9,21 @@ use Rattle.curve.proofs.least_part.Lts as lts
 use Rattle.curve.proofs.append.Reads as append-reads
 use Rattle.curve.proofs.least_on.Reads as least-on-reads
 
--- src/lib.rt:147:9
 append-requires : tie.Need-append-requires
 append-requires c κs = search needs
 
--- src/lib.rt:147:9
 same-length : tie.Need-same-length
 same-length c = search needs
 
--- src/lib.rt:147:9
 returns : tie.Need-returns
 returns c = emits-append (c .before .before .before .before .before .before .before .pre .1 .0 .0 .0) (omega arith) (c .before .before .before .before .before .before .before .pre .1 .0 .0 .1) (emits-none _ _ _ _ _) (c .before .before .append .ensures) (λ j u v. sym (c .before .before .before .before .before .before .before .pre .1 .1 j u v (c .before .before .before .before .if1 .taken)))
 
--- src/lib.rt:149:5
 least-on-requires : tie.Need-least-on-requires
 least-on-requires c κs = search needs
 
--- src/lib.rt:131:1
 same-length-2 : tie.Need-same-length-2
 same-length-2 c = search needs
 
--- src/lib.rt:131:1
 returns-2 : tie.Need-returns-2
 returns-2 c = search needs
 
