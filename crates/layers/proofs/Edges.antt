@@ -3,7 +3,7 @@ use mathlib.Core.Path.{_≡_, refl, sym, _∙_, ap, subst}
 use mathlib.Core.List.{List}
 use mathlib.Core.Option.{Option}
 use mathlib.Core.Logic.{_⊎_, inl, inr, ⊎-elim}
-use mathlib.Core.Bool.{true, false, cond}
+use mathlib.Core.Bool.{Bool, true, false, cond}
 use Prim.Native.Nat.{ℕ, suc, _+_, _-_, _*_, _≤_, _<_, min}
 use native.Mathlib.Omega.{arith}
 use native.Mathlib.Numerals.{add-one}
@@ -92,3 +92,14 @@ module _ (o : Option Label) (t : ℕ) (es : List Edge) (k s cur : ℕ) (g : Shap
 
 pub took-all : {o : Option Label} {t : ℕ} {es : List Edge} {i n k s cur : ℕ} {g : Shape} {ws ws′ : List ℕ} {first second work r : ℕ} → i ≡ n → TookEdges o t es i k s cur g ws ws′ first second work r → TookEdges o t es n k s cur g ws ws′ first second work r
 took-all {o} {t} {es} {i} {n} {k} {s} {cur} {g} {ws} {ws′} {first} {second} {work} {r} e m = subst (λ (x : ℕ). TookEdges o t es x k s cur g ws ws′ first second work r) e m
+
+-- ---- an edge read elsewhere
+
+pub may-take-as : {o : Option Label} {t k s cur : ℕ} {g : Shape} {acc next work : ℕ} {ws : List ℕ} {x y : Edge} → x ≡ y → MayTake o t y k s cur g acc next work ws → MayTake o t x k s cur g acc next work ws
+may-take-as {o} {t} {k} {s} {cur} {g} {acc} {next} {work} {ws} e m = subst (λ (x : Edge). MayTake o t x k s cur g acc next work ws) (sym e) m
+
+pub took-as : {o : Option Label} {t k s cur : ℕ} {g : Shape} {ws ws′ : List ℕ} {acc next work r : ℕ} {x y : Edge} → x ≡ y → TookOne o t x k s cur g ws ws′ acc next work r → TookOne o t y k s cur g ws ws′ acc next work r
+took-as {o} {t} {k} {s} {cur} {g} {ws} {ws′} {acc} {next} {work} {r} e m = subst (λ (x : Edge). TookOne o t x k s cur g ws ws′ acc next work r) e m
+
+pub leads-as : (o : Option Label) (t k s : ℕ) {x y : Edge} {b : Bool} → x ≡ y → b ≡ leadsFrom o t x k s → b ≡ true → leadsFrom o t y k s ≡ true
+leads-as o t k s e h b = ap (λ (x : Edge). leadsFrom o t x k s) (sym e) ∙ sym h ∙ b

@@ -9,6 +9,7 @@ ghost use Prim.Native.Nat.{ℕ, suc, _+_, _*_, _≤_, _<_};
 ghost use lib.ListN.{length};
 ghost use Rattle.model.specs.Model.{inSet};
 ghost use Rattle.model.specs.Labels.{labelOn};
+ghost use Rattle.coded.specs.Coded.{Coded};
 ghost use Rattle.labels.specs.Boundary.{labelOf, leadsFrom};
 ghost use Rattle.layers.specs.Layer.{Shape-small, listAt};
 ghost use Rattle.layers.specs.Next.{NextReady, NextList, StepReady, Lists, OfCount, Stepped, firstCost, FirstReady, StartReady};
@@ -64,15 +65,15 @@ fn take_one(
     layer::take_edge(ws, acc, next, work, f, kind, pen, g.levels, g.base)
 }
 
-// The least over the first n edges, taken one by one into the least so far: where it stands, which is first or second. Most edges do not
+// The least over the edges, taken one by one into the least so far: where it stands, which is first or second. Most edges do not
 // lead to (k, s): they are passed over here, so that no call is made for them.
 fn take_edges(
     ws: &mut [u64],
     first: usize,
     second: usize,
     work: usize,
-    edges: [Edge; 32],
-    n: usize,
+    plan: Plan,
+    code: &[u64],
     on: Cover,
     t: usize,
     cur: usize,
@@ -80,13 +81,15 @@ fn take_edges(
     s: usize,
     g: Shape,
 ) -> usize
-    requires { ⌜ EdgesReady (labelOf on) t edges n k s cur g first second work (now ws) ⌝ }
-    ensures { λ r. ⌜ TookEdges (labelOf on) t edges n k s cur g (now (ws .entry)) (now (ws .exit)) first second work r ⌝ }
+    requires { ⌜ EdgesReady (labelOf on) t (plan .edges) (plan .edgecount) k s cur g first second work (now ws) ⌝ }
+    requires { ⌜ Coded plan (now code) ⌝ }
+    ensures { λ r. ⌜ TookEdges (labelOf on) t (plan .edges) (plan .edgecount) k s cur g (now (ws .entry)) (now (ws .exit)) first second work r ⌝ }
 {
+    let n = plan.edgecount;
     let mut acc = first;
     let mut i = 0;
     while i < n {
-        let e = edges[i];
+        let e = coded::edge_in(code, i);
         i += 1;
         if labels::leads(on, t, e, k, s) {
             // The other of the two places.
@@ -102,6 +105,7 @@ fn take_edges(
 fn next_list(
     ws: &mut [u64],
     plan: Plan,
+    code: &[u64],
     readings: &[i16],
     on: Cover,
     t: usize,
@@ -113,20 +117,20 @@ fn next_list(
     g: Shape,
 )
     requires { ⌜ NextReady plan (now readings) (labelOf on) t cur dst free k s g (now ws) ⌝ }
+    requires { ⌜ Coded plan (now code) ⌝ }
     ensures { λ r. ⌜ NextList plan (now (readings .entry)) t dst free k s (now (ws .entry)) (now (ws .exit)) ⌝ }
 {
     let levels = g.levels;
     let base = g.base;
     let size = 4 * (levels as usize);
     curve::constant(ws, free, levels, quadratic::NONE);
-    let edges = plan.edges;
     let acc = take_edges(
         ws,
         free,
         free + size,
         free + 2 * size,
-        edges,
-        plan.edgecount,
+        plan,
+        code,
         on,
         t,
         cur,
@@ -142,6 +146,7 @@ fn next_list(
 fn next_count(
     ws: &mut [u64],
     plan: Plan,
+    code: &[u64],
     readings: &[i16],
     on: Cover,
     t: usize,
@@ -152,13 +157,14 @@ fn next_count(
     g: Shape,
 )
     requires { ⌜ StepReady plan (now readings) t cur next free g (now ws) × ((labelOf on ≡ labelOn plan t) × (k < 2)) ⌝ }
+    requires { ⌜ Coded plan (now code) ⌝ }
     ensures { λ r. ⌜ Lists (OfCount k (plan .states)) plan (now (readings .entry)) (suc t) next free (now (ws .entry)) (now (ws .exit)) ⌝ }
 {
     let states = g.states;
     let mut s = 0;
     while s < states {
         let dst = list_at(next, g, k, s);
-        next_list(ws, plan, readings, on, t, cur, dst, free, k, s, g);
+        next_list(ws, plan, code, readings, on, t, cur, dst, free, k, s, g);
         s += 1;
     }
 }
@@ -167,6 +173,7 @@ fn next_count(
 pub fn next_layer(
     ws: &mut [u64],
     plan: Plan,
+    code: &[u64],
     readings: &[i16],
     t: usize,
     cur: usize,
@@ -175,12 +182,13 @@ pub fn next_layer(
     g: Shape,
 )
     requires { ⌜ StepReady plan (now readings) t cur next free g (now ws) ⌝ }
+    requires { ⌜ Coded plan (now code) ⌝ }
     ensures { λ r. ⌜ Stepped plan (now (readings .entry)) (suc t) next free (now (ws .entry)) (now (ws .exit)) ⌝ }
 {
-    let on = labels::label_on(plan, t);
+    let on = labels::label_on(plan, code, t);
     let mut k = 0;
     while k < labels::COUNTS {
-        next_count(ws, plan, readings, on, t, cur, next, free, k, g);
+        next_count(ws, plan, code, readings, on, t, cur, next, free, k, g);
         k += 1;
     }
 }

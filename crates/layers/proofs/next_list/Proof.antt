@@ -1,7 +1,6 @@
-use lib.IntN.{pos}
+use Rattle.layers.proofs.Next.{reading-is, edges-ready, reading-ready, next-list}
 use lib.ListN.{getD}
-use Rattle.layers.proofs.Next.{reading-is}
-use Rattle.layers.proofs.Next.{edges-ready, reading-ready, next-list}
+use lib.IntN.{pos}
 use borrow.Author.Needs.{needs}
 use Rattle.layers.proofs.next_list.Statement.{statement}
 use Rattle.layers.proofs.next_list.Tie as tie
@@ -12,41 +11,53 @@ use Rattle.integers.proofs.bias.Reads as bias-reads
 use Rattle.layer.proofs.add_reading.Reads as add-reading-reads
 use Rattle.layers.proofs.take_edges.Reads as take-edges-reads
 
+-- src/lib.rt:125:16
 mul-size : tie.Need-mul-size
 mul-size c = search needs
 
+-- src/lib.rt:126:5
 constant-requires : tie.Need-constant-requires
 constant-requires c κs = search needs
 
+-- src/lib.rt:130:9
 add-take-edges : tie.Need-add-take-edges
 add-take-edges c = search needs
 
+-- src/lib.rt:131:16
 mul-take-edges : tie.Need-mul-take-edges
 mul-take-edges c = search needs
 
+-- src/lib.rt:131:9
 add-take-edges-2 : tie.Need-add-take-edges-2
 add-take-edges-2 c = search needs
 
+-- src/lib.rt:127:9
 take-edges-requires : tie.Need-take-edges-requires
-take-edges-requires c κs = edges-ready (c .before .before .before .before .before .before .before .pre) (c .before .before .before .before .constant .ensures)
+take-edges-requires c κs = (edges-ready (c .before .before .before .before .before .before .before .pre .0) (c .before .before .before .constant .ensures), c .before .before .before .before .before .before .before .pre .1)
 
+-- src/lib.rt:141:28
 mul-bias : tie.Need-mul-bias
 mul-bias c = search needs
 
+-- src/lib.rt:141:28
 shared-slice-copy-out-bias : tie.Need-shared-slice-copy-out-bias
 shared-slice-copy-out-bias c = search needs
 
+-- src/lib.rt:141:9
 bias-requires : tie.Need-bias-requires
 bias-requires c κs = search needs
 
+-- src/lib.rt:142:5
 add-reading-requires : tie.Need-add-reading-requires
-add-reading-requires c κs = reading-ready (c .before .before .before .before .before .before .before .before .before .before .before .before .before .pre) (c .before .before .before .before .before .before .before .before .before .before .constant .ensures) (c .before .before .before .before .before .take-edges .ensures) (c .before .bias .ensures .1)
+add-reading-requires c κs = reading-ready (c .before .before .before .before .before .before .before .before .before .before .before .before .before .pre .0) (c .before .before .before .before .before .before .before .before .before .constant .ensures) (c .before .before .before .before .before .take-edges .ensures) (c .before .bias .ensures .1)
 
+-- src/lib.rt:105:1
 same-length : tie.Need-same-length
 same-length c = search needs
 
+-- src/lib.rt:105:1
 returns : tie.Need-returns
-returns c = next-list (c .before .before .before .before .before .before .before .before .before .before .before .before .before .before .before .before .pre) (c .before .before .before .before .before .before .before .before .before .before .before .before .before .constant .ensures) (c .before .before .before .before .before .before .before .before .take-edges .ensures) _ (reading-is (getD (c .before .before .before .before .before .before .before .before .before .before .before .before .before .before .before .before .args .readings .now) (c .before .before .before .before .before .before .before .before .before .before .before .before .before .before .before .before .args .t) (pos 0)) _ (c .before .before .before .before .before .bias-arg .given) (c .before .before .before .before .bias .ensures .0)) (c .before .before .add-reading .ensures)
+returns c = next-list (c .before .before .before .before .before .before .before .before .before .before .before .before .before .before .before .before .pre .0) (c .before .before .before .before .before .before .before .before .before .before .before .before .constant .ensures) (c .before .before .before .before .before .before .before .before .take-edges .ensures) _ (reading-is (getD (c .before .before .before .before .before .before .before .before .before .before .before .before .before .before .before .before .args .readings .now) (c .before .before .before .before .before .before .before .before .before .before .before .before .before .before .before .before .args .t) (pos 0)) _ (c .before .before .before .before .before .bias-arg .given) (c .before .before .before .before .bias .ensures .0)) (c .before .before .add-reading .ensures)
 
 pub next-list-spec : {M : Type 1} → statement M
 next-list-spec =
