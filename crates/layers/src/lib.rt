@@ -118,22 +118,12 @@ fn next_list(
     let levels = g.levels;
     let base = g.base;
     let size = 4 * (levels as usize);
+    let second = free + size;
+    let work = free + 2 * size;
     curve::constant(ws, free, levels, quadratic::NONE);
     let edges = plan.edges;
-    let acc = take_edges(
-        ws,
-        free,
-        free + size,
-        free + 2 * size,
-        edges,
-        plan.edgecount,
-        on,
-        t,
-        cur,
-        k,
-        s,
-        g,
-    );
+    let n = plan.edgecount;
+    let acc = take_edges(ws, free, second, work, edges, n, on, t, cur, k, s, g);
     let u = integers::bias(readings[t]);
     layer::add_reading(ws, acc, u, 1, dst, levels, base);
 }

@@ -1,31 +1,25 @@
+-- `layers::next_list`: none everywhere, then the least over the edges, then the loss of the reading. Assumes nothing.
 use lib.IntN.{pos}
 use lib.ListN.{getD}
-use Rattle.layers.proofs.Next.{reading-is}
-use Rattle.layers.proofs.Next.{edges-ready, reading-ready, next-list}
 use borrow.Author.Needs.{needs}
+use Rattle.layers.proofs.Next.{reading-is, edges-ready, reading-ready, next-list}
 use Rattle.layers.proofs.next_list.Statement.{statement}
 use Rattle.layers.proofs.next_list.Tie as tie
-use Rattle.layers.proofs.next_list.Reads as reads
-use Rattle.layers.proofs.next_list.Lts as lts
-use Rattle.curve.proofs.constant.Reads as constant-reads
-use Rattle.integers.proofs.bias.Reads as bias-reads
-use Rattle.layer.proofs.add_reading.Reads as add-reading-reads
-use Rattle.layers.proofs.take_edges.Reads as take-edges-reads
 
 mul-size : tie.Need-mul-size
 mul-size c = search needs
 
+add-second : tie.Need-add-second
+add-second c = search needs
+
+mul-work : tie.Need-mul-work
+mul-work c = search needs
+
+add-work : tie.Need-add-work
+add-work c = search needs
+
 constant-requires : tie.Need-constant-requires
 constant-requires c κs = search needs
-
-add-take-edges : tie.Need-add-take-edges
-add-take-edges c = search needs
-
-mul-take-edges : tie.Need-mul-take-edges
-mul-take-edges c = search needs
-
-add-take-edges-2 : tie.Need-add-take-edges-2
-add-take-edges-2 c = search needs
 
 take-edges-requires : tie.Need-take-edges-requires
 take-edges-requires c κs = edges-ready (c .before .before .before .before .before .before .before .pre) (c .before .before .before .before .constant .ensures)
@@ -46,17 +40,21 @@ same-length : tie.Need-same-length
 same-length c = search needs
 
 returns : tie.Need-returns
-returns c = next-list (c .before .before .before .before .before .before .before .before .before .before .before .before .before .before .before .before .pre) (c .before .before .before .before .before .before .before .before .before .before .before .before .before .constant .ensures) (c .before .before .before .before .before .before .before .before .take-edges .ensures) _ (reading-is (getD (c .before .before .before .before .before .before .before .before .before .before .before .before .before .before .before .before .args .readings .now) (c .before .before .before .before .before .before .before .before .before .before .before .before .before .before .before .before .args .t) (pos 0)) _ (c .before .before .before .before .before .bias-arg .given) (c .before .before .before .before .bias .ensures .0)) (c .before .before .add-reading .ensures)
+returns c =
+    let s = c .before .before .before .before .before .before .before .before .before .before .before .before .before .before .before .before in
+    next-list (s .pre) (c .before .before .before .before .before .before .before .before .before .before .before .before .before .constant .ensures) (c .before .before .before .before .before .before .before .before .take-edges .ensures) _
+    (reading-is (getD (s .args .readings .now) (s .args .t) (pos 0)) _ (c .before .before .before .before .before .bias-arg .given) (c .before .before .before .before .bias .ensures .0))
+    (c .before .before .add-reading .ensures)
 
 pub next-list-spec : {M : Type 1} → statement M
 next-list-spec =
     tie.close
     (tie.spec
     mul-size
+    add-second
+    mul-work
+    add-work
     constant-requires
-    add-take-edges
-    mul-take-edges
-    add-take-edges-2
     take-edges-requires
     mul-bias
     shared-slice-copy-out-bias
