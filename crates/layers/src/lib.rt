@@ -65,7 +65,7 @@ fn take_one(
 }
 
 // The least over the first n edges, taken one by one into the least so far: where it stands, which is first or second. Most edges do not
-// lead to (k, s): they are passed over here, so that no call is made for them.
+// lead to (k, s): they are passed over here, before take_one is called.
 fn take_edges(
     ws: &mut [u64],
     first: usize,
