@@ -13,7 +13,6 @@ use Rattle.curve.specs.Pieces.{piece, Built, Formed, Held, Same, Apart, Copyabl
 use Rattle.curve.specs.Lists.{closed, count-le, count-most}
 use Rattle.curve.specs.Lows.{costs}
 use Rattle.curve.specs.Curve.{Curve, Limits, curve-wider, curve-copyable}
-use Rattle.layer.specs.declared.Temps.{Temps}
 use Rattle.layer.specs.Edge.{Sound, Hand, Into, Ready}
 
 -- a list whose values are none or below 2^53
@@ -29,13 +28,13 @@ pub record Valid (ws : List ℕ) (o L base : ℕ) : Type 0 where
   pub list : Listed ws o L base
 
 -- the temporary lists and f share no word
-pub record Separate (t : Temps) (f L : ℕ) : Type 0 where
-  pub f-acc : Apart f (t .acc) (4 * L)
-  pub f-next : Apart f (t .next) (4 * L)
-  pub f-work : Apart f (t .work) (4 * L)
-  pub acc-next : Apart (t .acc) (t .next) (4 * L)
-  pub acc-work : Apart (t .acc) (t .work) (4 * L)
-  pub next-work : Apart (t .next) (t .work) (4 * L)
+pub record Separate (acc next work f L : ℕ) : Type 0 where
+  pub f-acc : Apart f acc (4 * L)
+  pub f-next : Apart f next (4 * L)
+  pub f-work : Apart f work (4 * L)
+  pub acc-next : Apart acc next (4 * L)
+  pub acc-work : Apart acc work (4 * L)
+  pub next-work : Apart next work (4 * L)
 
 -- the first n pieces, looked through
 abbrev pub Scanned : List ℕ → ℕ → ℕ → ℕ → ℕ → Type 0
@@ -80,7 +79,7 @@ copyable v dst a r =
     let n = count-most (v .list .held .formed) in
     curve-copyable dst (v .list) (omega arith) (⊎-elim (λ h. inl (omega arith)) (λ h. inr (omega arith)) a)
 
-pub ready : {ws : List ℕ} {t : Temps} {f pen L base : ℕ} → Separate t f L → Valid ws (t .acc) L base → Valid ws f L base → t .next + 4 * L ≤ length ws → t .work + 4 * L ≤ length ws → pen ≤ 1048576 → Ready t f pen base L ws
+pub ready : {ws : List ℕ} {acc next work f pen L base : ℕ} → Separate acc next work f L → Valid ws acc L base → Valid ws f L base → next + 4 * L ≤ length ws → work + 4 * L ≤ length ws → pen ≤ 1048576 → Ready acc next work f pen base L ws
 ready {pen = pen} s a v n w p = record {
   hand = record {
     into = record { f-next = s .f-next; f-work = s .f-work; next-work = s .next-work; room-next = n; room-work = w };
@@ -92,7 +91,7 @@ ready {pen = pen} s a v n w p = record {
   low = omega arith;
   some = v .some;
   limits = v .limits;
-  acc = sound a;
+  so-far = sound a;
   from = curve-wider 1048576 (18014398509481984 - pen) (omega arith) (omega arith) (v .list);
 }
 

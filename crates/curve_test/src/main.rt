@@ -6,7 +6,6 @@ mod list;
 mod run;
 
 use curve::Low;
-use layer::Temps;
 use libc::STDOUT_FILENO;
 
 // The next of a fixed sequence of numbers below 2^31.
@@ -88,14 +87,11 @@ fn test_one(
 fn test_edge(ws: &mut [u64], a: usize, b: usize, c: usize, x: u64, levels: u64, base: u64) -> u64 {
     let copied = test_one(ws, 6, b, b, 6, 0, levels, base);
     let number = pick(random(x), 5);
-    let t = Temps {
-        acc: 960,
-        next: 1120,
-        work: 1280,
-    };
     let r = run::edge(
         ws,
-        t,
+        960,
+        1120,
+        1280,
         160 * (a % 9),
         number,
         x % 64,

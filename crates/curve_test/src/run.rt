@@ -1,6 +1,5 @@
 // The operations on lists in the workspace, once what they ask for is tested.
 use curve::Low;
-use layer::Temps;
 use plan::Kind;
 ghost use mathlib.Core.Path.{_≡_};
 ghost use mathlib.Core.Bool.{true};
@@ -100,12 +99,9 @@ pub fn operate(
 }
 
 // Whether the temporary lists and the one at f share no word.
-fn in_hand(t: Temps, f: usize, levels: u64) -> bool
-    ensures { λ r. ⌜ (r ≡ true → Separate t f levels) ⌝ }
+fn in_hand(acc: usize, next: usize, work: usize, f: usize, levels: u64) -> bool
+    ensures { λ r. ⌜ (r ≡ true → Separate acc next work f levels) ⌝ }
 {
-    let acc = t.acc;
-    let next = t.next;
-    let work = t.work;
     if !crate::list::apart(f, acc, levels) {
         return false;
     }
@@ -144,10 +140,12 @@ fn kind_of(number: u64, gap: u64) -> Kind
     Kind::Abs(g)
 }
 
-// An edge from the list at f into the one at t.acc: where the least is then; past every list where it could not be taken.
+// An edge from the list at f into the one at acc: where the least is then; past every list where it could not be taken.
 pub fn edge(
     ws: &mut [u64],
-    t: Temps,
+    acc: usize,
+    next: usize,
+    work: usize,
     f: usize,
     number: u64,
     gap: u64,
@@ -155,10 +153,7 @@ pub fn edge(
     levels: u64,
     base: u64,
 ) -> usize {
-    let acc = t.acc;
-    let next = t.next;
-    let work = t.work;
-    if !in_hand(t, f, levels) {
+    if !in_hand(acc, next, work, f, levels) {
         return 1048577;
     }
     if !crate::list::valid(ws, acc, levels, base) {
@@ -177,8 +172,7 @@ pub fn edge(
         return 1048577;
     }
     let kind = kind_of(number, gap);
-    let r = layer::take_edge(ws, t, f, kind, pen, levels, base);
-    r.acc
+    layer::take_edge(ws, acc, next, work, f, kind, pen, levels, base)
 }
 
 // The least on a range; level 1048577 where the list may not be read.

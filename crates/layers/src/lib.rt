@@ -65,8 +65,8 @@ fn take_one(
     layer::take_edge(ws, acc, next, work, f, kind, pen, g.levels, g.base)
 }
 
-// The least over the edges, taken one by one into the least so far: where it stands, which is first or second. Most edges do not
-// lead to (k, s): they are passed over here, so that no call is made for them.
+// The least over the edges, taken one by one into the least so far: where it stands, which is first or second. Most edges do not lead to
+// (k, s): they are passed over here, before take_one is called.
 fn take_edges(
     ws: &mut [u64],
     first: usize,
@@ -123,21 +123,10 @@ fn next_list(
     let levels = g.levels;
     let base = g.base;
     let size = 4 * (levels as usize);
+    let second = free + size;
+    let work = free + 2 * size;
     curve::constant(ws, free, levels, quadratic::NONE);
-    let acc = take_edges(
-        ws,
-        free,
-        free + size,
-        free + 2 * size,
-        plan,
-        code,
-        on,
-        t,
-        cur,
-        k,
-        s,
-        g,
-    );
+    let acc = take_edges(ws, free, second, work, plan, code, on, t, cur, k, s, g);
     let u = integers::bias(readings[t]);
     layer::add_reading(ws, acc, u, 1, dst, levels, base);
 }

@@ -1,3 +1,4 @@
+-- `layers::next_list`: the least over the edges, and the loss. Assumes nothing.
 use Rattle.layers.proofs.Next.{reading-is, edges-ready, reading-ready, next-list}
 use lib.ListN.{getD}
 use lib.IntN.{pos}
@@ -15,39 +16,39 @@ use Rattle.layers.proofs.take_edges.Reads as take-edges-reads
 mul-size : tie.Need-mul-size
 mul-size c = search needs
 
--- src/lib.rt:126:5
+-- src/lib.rt:126:18
+add-second : tie.Need-add-second
+add-second c = search needs
+
+-- src/lib.rt:127:23
+mul-work : tie.Need-mul-work
+mul-work c = search needs
+
+-- src/lib.rt:127:16
+add-work : tie.Need-add-work
+add-work c = search needs
+
+-- src/lib.rt:128:5
 constant-requires : tie.Need-constant-requires
 constant-requires c κs = search needs
 
--- src/lib.rt:130:9
-add-take-edges : tie.Need-add-take-edges
-add-take-edges c = search needs
-
--- src/lib.rt:131:16
-mul-take-edges : tie.Need-mul-take-edges
-mul-take-edges c = search needs
-
--- src/lib.rt:131:9
-add-take-edges-2 : tie.Need-add-take-edges-2
-add-take-edges-2 c = search needs
-
--- src/lib.rt:127:9
+-- src/lib.rt:129:9
 take-edges-requires : tie.Need-take-edges-requires
 take-edges-requires c κs = (edges-ready (c .before .before .before .before .before .before .before .pre .0) (c .before .before .before .constant .ensures), c .before .before .before .before .before .before .before .pre .1)
 
--- src/lib.rt:141:28
+-- src/lib.rt:130:28
 mul-bias : tie.Need-mul-bias
 mul-bias c = search needs
 
--- src/lib.rt:141:28
+-- src/lib.rt:130:28
 shared-slice-copy-out-bias : tie.Need-shared-slice-copy-out-bias
 shared-slice-copy-out-bias c = search needs
 
--- src/lib.rt:141:9
+-- src/lib.rt:130:9
 bias-requires : tie.Need-bias-requires
 bias-requires c κs = search needs
 
--- src/lib.rt:142:5
+-- src/lib.rt:131:5
 add-reading-requires : tie.Need-add-reading-requires
 add-reading-requires c κs = reading-ready (c .before .before .before .before .before .before .before .before .before .before .before .before .before .pre .0) (c .before .before .before .before .before .before .before .before .before .constant .ensures) (c .before .before .before .before .before .take-edges .ensures) (c .before .bias .ensures .1)
 
@@ -64,10 +65,10 @@ next-list-spec =
     tie.close
     (tie.spec
     mul-size
+    add-second
+    mul-work
+    add-work
     constant-requires
-    add-take-edges
-    mul-take-edges
-    add-take-edges-2
     take-edges-requires
     mul-bias
     shared-slice-copy-out-bias
