@@ -44,7 +44,7 @@ fn store(ws: &mut [u64], at: usize, end: u64, q: Quad)
 }
 
 // Whether two quadratics are the same. Where they differ c nearly always does: with c first the other two tests are hardly reached, and
-// the branch is foretold.
+// the processor predicts the one that is.
 fn same(p: Quad, q: Quad) -> bool
     ensures { λ r. ⌜ (r ≡ true → p ≡ q) ⌝ }
 {
@@ -123,8 +123,8 @@ fn next_stretch(p: Quad, q: Quad, a: u64, y: u64, base: u64) -> Stretch
     Stretch { winner: q, end: t }
 }
 
-// The better of p and q at the levels from x to y, p where they are equal. Which one it is cannot be foretold, so that both go through
-// one `append`.
+// The better of p and q at the levels from x to y, p where they are equal. One `append` serves whichever is better: one for each would be
+// slower.
 fn least_on(
     ws: &mut [u64],
     dst: usize,
