@@ -219,7 +219,15 @@ fn restart(
 }
 
 // Forward to x, with nothing saved on the way.
-fn forward(ws: &mut [u64], plan: Plan, code: &[u64], readings: &[i16], g: Shape, walk: Walk, x: usize) -> Walk
+fn forward(
+    ws: &mut [u64],
+    plan: Plan,
+    code: &[u64],
+    readings: &[i16],
+    g: Shape,
+    walk: Walk,
+    x: usize,
+) -> Walk
     requires { ⌜ Goes plan (now readings) g walk x (now ws) ⌝ }
     requires { ⌜ Coded plan (now code) ⌝ }
     ensures { λ r. ⌜ Reached plan (now (readings .entry)) x (walk .count) (now (ws .entry)) (now (ws .exit)) r ⌝ }

@@ -21,15 +21,18 @@ restart-requires c κs = (c .before .before .before .before .before .before .bef
 
 -- src/lib.rt:338:5
 advance-requires : tie.Need-advance-requires
-advance-requires c κs = (let m = restarted-walked (c .before .before .before .before .before .before .before .before .before .before .before .before .pre .0 .0) (stack-dropped (c .before .before .before .before .before .before .before .before .before .before .before .before .pre .0 .1 .1 .0) (c .before .before .before .before .before .before .before .drop-after .ensures)) (c .before .before .before .before .restart .ensures) refl in (
-  record {
-    space = space-then (c .before .before .before .before .before .before .before .before .before .before .before .before .pre .0 .0) (m .inside .size);
-    at = m .at;
-    from = starts-early (c .before .before .before .before .before .before .before .drop-after .ensures) (c .before .before .before .before .restart .ensures) (c .before .before .before .before .before .before .before .before .before .before .before .before .pre .0 .1 .1 .1 .0);
-    most = omega (arith, c .before .before .before .before .before .before .before .before .before .before .before .before .pre .0 .1 .1 .1 .1, c .before .before .before .before .before .before .before .before .before .before .before .before .pre .0 .1 .0 .most);
-  },
-  m .stack,
-), c .before .before .before .before .before .before .before .before .before .before .before .before .pre .1)
+advance-requires c κs = (
+  let m = restarted-walked (c .before .before .before .before .before .before .before .before .before .before .before .before .pre .0 .0) (stack-dropped (c .before .before .before .before .before .before .before .before .before .before .before .before .pre .0 .1 .1 .0) (c .before .before .before .before .before .before .before .drop-after .ensures)) (c .before .before .before .before .restart .ensures) refl in (
+    record {
+      space = space-then (c .before .before .before .before .before .before .before .before .before .before .before .before .pre .0 .0) (m .inside .size);
+      at = m .at;
+      from = starts-early (c .before .before .before .before .before .before .before .drop-after .ensures) (c .before .before .before .before .restart .ensures) (c .before .before .before .before .before .before .before .before .before .before .before .before .pre .0 .1 .1 .1 .0);
+      most = omega (arith, c .before .before .before .before .before .before .before .before .before .before .before .before .pre .0 .1 .1 .1 .1, c .before .before .before .before .before .before .before .before .before .before .before .before .pre .0 .1 .0 .most);
+    },
+    m .stack,
+  ),
+  c .before .before .before .before .before .before .before .before .before .before .before .before .pre .1,
+)
 
 -- src/lib.rt:322:1
 same-length : tie.Need-same-length
