@@ -235,9 +235,6 @@ emits-one {ws} {ws′} {dst} {n} {r} {q} x y g h a =
 pub emits-no : (F : ℕ → Quad) (ws : List ℕ) (dst n x y : ℕ) → x ≤ y → y ≤ x → Emits F ws ws dst n x y n
 emits-no F ws dst n x y h g = let e : y ≡ x = omega arith in rw e (emits-none F ws dst n x)
 
-pub emits-zero : (F : ℕ → Quad) (ws : List ℕ) (dst to : ℕ) → to ≤ 0 → Emits F ws ws dst 0 0 to 0
-emits-zero F ws dst to h = let e : to ≡ 0 = omega arith in rw e (emits-none F ws dst 0 0)
-
 -- ---- shifted
 pub shift-none : (g j : ℕ) (F : ℕ → Quad) → j < g → flat none ≡ shiftOf g F j
 shift-none g j F h = sym (ap (λ (b : Bool). pick b (moved g (F (j - g))) (flat none)) (lt-leb g j h))
@@ -247,44 +244,6 @@ shift-moved g j F q h e = sym (ap (λ (b : Bool). pick b (moved g (F (j - g))) (
 
 pub shift-same : (g j L : ℕ) (F G : ℕ → Quad) → ((i : ℕ) → i < L → F i ≡ G i) → j < L → shiftOf g F j ≡ shiftOf g G j
 shift-same g j L F G f h = ap (λ (t : Quad). pick (leb g j) (moved g t) (flat none)) (f (j - g) (omega arith))
-
--- ---- reading a list from its end: the last of the k pieces of the levels below x
-pub record Back (ws₀ ws : List ℕ) (o L k x : ℕ) : Type 0 where
-  pub some : 0 < k
-  pub index : k - 1 < L
-  pub room : o + 4 * (k - 1) + 4 ≤ length ws
-  pub ends : (i : ℕ) → i < k - 1 → endOf ws o i < L
-  pub start : startOf ws o (k - 1) ≡ startOf ws₀ o (k - 1)
-  pub low : startOf ws₀ o (k - 1) < x
-  pub is : (j : ℕ) → startOf ws₀ o (k - 1) ≤ j → j < x → piece ws₀ o L j ≡ quadAt ws (o + 4 * (k - 1))
-  pub less : Built (Is (piece ws₀ o L)) ws₀ o (k - 1) (startOf ws₀ o (k - 1))
-
-pub back : {ws₀ ws : List ℕ} {dst len o L k x m : ℕ} → Kept ws₀ ws dst m → m ≤ len → Lent ws₀ o dst len L → Built (Is (piece ws₀ o L)) ws₀ o k x → x ≤ L → 0 < x → Back ws₀ ws o L k x
-back {ws₀} {ws} {dst} {len} {o} {L} {k} {x} t h l b g p = record {
-  some = pos;
-  index = omega (arith, cnt);
-  room = omega (arith, cnt, l .room, t .size);
-  ends = λ i u. rw (same-end m i (omega (arith, cnt))) (omega (arith, end-lt ws₀ o k (b .rising) i k (omega arith) (omega arith), b .ends));
-  start = same-start m (k - 1) (omega (arith, cnt));
-  low = omega (arith, b .rising (k - 1) (omega (arith, pos)), last);
-  is = λ j u v. sym (b .holds (k - 1) (omega (arith, pos)) j u (omega (arith, last))) ∙ sym (same-quad m (k - 1) (omega (arith, cnt)));
-  less = record { ends = refl; rising = λ i u. b .rising i (omega arith); holds = λ i u. b .holds i (omega arith) };
-}
-  where
-    m : Same ws₀ ws o (4 * l .formed .count)
-    m = kept-lent t h l
-
-    pos : 0 < k
-    pos = ⊎-elim (λ u. absurd (nil u)) (λ u. u) (le-or-lt k 0)
-      where
-        nil : k ≤ 0 → ⊥
-        nil u = let e : k ≡ 0 = omega arith in let z : startOf ws₀ o 0 ≡ x = rw e at (b .ends) in omega (arith, start-zero ws₀ o)
-
-    cnt : (0 < k) × ((k ≤ l .formed .count) × (l .formed .count ≤ L))
-    cnt = (pos, (built-most (l .formed) b g, count-most (l .formed)))
-
-    last : endOf ws₀ o (k - 1) + 1 ≡ x
-    last = sym (start-pos ws₀ o k pos) ∙ b .ends
 
 pub at-most : {ws : List ℕ} {o L i x : ℕ} → At ws o L i x → (f : Formed ws o L) → i ≤ f .count
 at-most a f = omega (arith, a .inside, count-same (a .formed) f)

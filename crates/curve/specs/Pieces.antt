@@ -119,10 +119,6 @@ pub record Turnable (s : ℕ) (q : Quad) : Type 0 where
   pub sum : q .z ≤ q .a * s
   pub rest : 2 * (q .z * s) ≤ q .a * (s * s) + q .c
 
--- the pieces before the kth end at levels
-abbrev pub endsBelow : List ℕ → ℕ → ℕ → Type 0
-endsBelow ws o k = (i : ℕ) → i < k → endOf ws o i < 262144
-
 -- a list at o that may be copied to dst, where it needs no more words than it has
 pub record Copyable (ws : List ℕ) (o dst L : ℕ) : Type 0 where
   pub formed : Formed ws o L

@@ -18,7 +18,7 @@ ghost use Prim.Native.Nat.{ℕ, _+_, _*_, _-_, _≤_, _<_};
 ghost use lib.ListN.{length, getD};
 ghost use Rattle.quadratic.specs.Quad.{Small, Sized, Fine, raised, pushed, moved, mirrored, better, value, flat, none, up, down, Under, Over, Stays};
 ghost use Rattle.curve.specs.Lows.{LeastIn, Drops, Prefixed, Lowered, prefixOf, costs, lowest};
-ghost use Rattle.curve.specs.Pieces.{Yields, noneOnly, quadAt, Kept, Built, Is, Formed, piece, Stored, Appended, Emits, Made, Apart, Held, Lent, Copyable, Copied, startOf, endOf, endsBelow, shiftOf, mirrorOf, Turnable};
+ghost use Rattle.curve.specs.Pieces.{Yields, noneOnly, quadAt, Kept, Built, Is, Formed, piece, Stored, Appended, Emits, Made, Apart, Held, Lent, Copyable, Copied, shiftOf, mirrorOf, Turnable};
 
 // The piece at a place, without its end.
 fn load(ws: &[u64], at: usize) -> Quad
@@ -296,32 +296,26 @@ pub fn count(ws: &[u64], f: usize, levels: u64) -> usize
     i
 }
 
-// The first level of the kth piece.
-fn start(ws: &[u64], f: usize, k: usize) -> u64
-    requires { ⌜ (f + 4 * k ≤ length (now ws)) × (endsBelow (now ws) f k) ⌝ }
-    ensures { λ r. ⌜ r ≡ startOf (now (ws .entry)) f k ⌝ }
-{
-    if k == 0 { 0 } else { ws[f + 4 * (k - 1)] + 1 }
-}
-
-// dst: f from its last level to its first. Neighbours of f that differ still do, so that none are compared.
+// dst: f from its last level to its first, its pieces read in their order and written from the last place to the first. Neighbours of f that
+// differ still do, so that none are compared.
 pub fn mirror(ws: &mut [u64], f: usize, dst: usize, levels: u64, base: u64)
     requires { ⌜ Lent (now ws) f dst (4 * levels) levels × (dst + 4 * levels ≤ length (now ws)) ⌝ }
     requires { ⌜ (131072 ≤ base) × (base + levels ≤ 262144) ⌝ }
     requires { ⌜ ((j : ℕ) → j < levels → Turnable (2 * base + (levels - 1)) (piece (now ws) f levels j)) ⌝ }
     ensures { λ r. ⌜ Made (mirrorOf (2 * base + (levels - 1)) levels (piece (now (ws .entry)) f levels)) (now (ws .entry)) (now (ws .exit)) dst levels ⌝ }
 {
-    let mut k = count(ws, f, levels);
-    let mut n: usize = 0;
-    let mut x = levels;
-    while 0 < x {
-        k -= 1;
-        let s = start(ws, f, k);
-        let p = load(ws, f + 4 * k);
+    let mut n = count(ws, f, levels);
+    let mut i: usize = 0;
+    let mut x: u64 = 0;
+    while x < levels {
+        n -= 1;
+        let at = f + 4 * i;
+        let e = ws[at];
+        let p = load(ws, at);
         let q = quadratic::mirror(p, 2 * base + (levels - 1));
-        store(ws, dst + 4 * n, levels - 1 - s, q);
-        n += 1;
-        x = s;
+        store(ws, dst + 4 * n, levels - 1 - x, q);
+        i += 1;
+        x = e + 1;
     }
 }
 
