@@ -255,13 +255,7 @@ fn step_back(plan: &Plan, mode: Mode, before: &[i64], at: Place, want: i64) -> (
 fn way_back(plan: &Plan, z: &[i16], table: &[i64], row: usize, end: Place) -> Vec<Run> {
     let mut at = end;
     let mut runs = vec![];
-    let mut run = Run {
-        first: 1,
-        last: z.len(),
-        state: at.s,
-        level: plan.lo + at.x,
-        edge: 255,
-    };
+    let mut run = Run::ending(z.len(), at.s, plan.lo + at.x);
     for i in (1..z.len()).rev() {
         let distance = z[i] as i64 - plan.lo - at.x;
         let before = &table[(i - 1) * row..i * row];
@@ -269,13 +263,7 @@ fn way_back(plan: &Plan, z: &[i16], table: &[i64], row: usize, end: Place) -> Ve
         let e = plan.edges[edge];
         if e.kind != Kind::Stay || e.from != e.to {
             runs.push(Run { first: i + 1, edge, ..run });
-            run = Run {
-                first: 1,
-                last: i,
-                state: place.s,
-                level: plan.lo + place.x,
-                edge: 255,
-            };
+            run = Run::ending(i, place.s, plan.lo + place.x);
         }
         at = place;
     }

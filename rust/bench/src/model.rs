@@ -121,6 +121,19 @@ pub struct Run {
     pub edge: usize,
 }
 
+impl Run {
+    /// A run up to the reading `last`, its first reading and its edge not found yet: those of a first run.
+    pub fn ending(last: usize, state: usize, level: i64) -> Run {
+        Run {
+            first: 1,
+            last,
+            state,
+            level,
+            edge: 255,
+        }
+    }
+}
+
 #[derive(Clone, Debug, PartialEq)]
 pub struct Answer {
     pub cost: i64,

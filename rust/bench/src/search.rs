@@ -22,6 +22,19 @@ struct Walk {
     steps: usize,
 }
 
+impl Walk {
+    /// At the first reading, with nothing saved.
+    fn start(fr: Frame) -> Walk {
+        Walk {
+            time: 1,
+            cur: 0,
+            other: fr.layer_words(),
+            saved: Saved::empty(fr.saved()),
+            steps: 0,
+        }
+    }
+}
+
 fn step(ws: &mut [u64], fr: Frame, plan: &Plan, z: &[i16], wk: &mut Walk) {
     next_layer(ws, fr, plan, wk.time, wk.cur, wk.other, z[wk.time] as i64);
     std::mem::swap(&mut wk.cur, &mut wk.other);
@@ -134,13 +147,7 @@ fn step_back(ws: &[u64], fr: Frame, plan: &Plan, boundary: usize, cur: usize, pt
 }
 
 fn forward(ws: &mut [u64], fr: Frame, plan: &Plan, z: &[i16]) -> Walk {
-    let mut wk = Walk {
-        time: 1,
-        cur: 0,
-        other: fr.layer_words(),
-        saved: Saved::empty(fr.saved()),
-        steps: 0,
-    };
+    let mut wk = Walk::start(fr);
     first_layer(ws, fr, plan, 0, z[0] as i64);
     advance(ws, fr, plan, z, &mut wk, z.len());
     wk
@@ -171,13 +178,7 @@ pub fn search(ws: &mut [u64], plan: &Plan, z: &[i16]) -> (Option<Answer>, usize)
 /// The runs, found last first and turned round in place.
 fn way_back(ws: &mut [u64], fr: Frame, plan: &Plan, z: &[i16], wk: &mut Walk, end: Point) -> Vec<Run> {
     let mut runs = Vec::with_capacity(z.len());
-    let mut run = Run {
-        first: 1,
-        last: z.len(),
-        state: end.s,
-        level: end.level,
-        edge: 255,
-    };
+    let mut run = Run::ending(z.len(), end.s, end.level);
     let mut pt = end;
     for i in (1..z.len()).rev() {
         rewind(ws, fr, plan, z, wk, i);
@@ -187,13 +188,7 @@ fn way_back(ws: &mut [u64], fr: Frame, plan: &Plan, z: &[i16], wk: &mut Walk, en
         let e = plan.edges[edge];
         if e.kind != Kind::Stay || e.from != e.to {
             runs.push(Run { first: i + 1, edge, ..run });
-            run = Run {
-                first: 1,
-                last: i,
-                state: before.s,
-                level: before.level,
-                edge: 255,
-            };
+            run = Run::ending(i, before.s, before.level);
         }
         pt = before;
     }
@@ -205,13 +200,7 @@ fn way_back(ws: &mut [u64], fr: Frame, plan: &Plan, z: &[i16], wk: &mut Walk, en
 /// One pass forward with its pieces counted, functions that are none everywhere aside.
 pub fn stats(ws: &mut [u64], plan: &Plan, z: &[i16]) -> Stats {
     let fr = Frame::of(plan);
-    let mut wk = Walk {
-        time: 1,
-        cur: 0,
-        other: fr.layer_words(),
-        saved: Saved::empty(fr.saved()),
-        steps: 0,
-    };
+    let mut wk = Walk::start(fr);
     let mut stats = Stats::default();
     first_layer(ws, fr, plan, 0, z[0] as i64);
     while wk.time < z.len() {
