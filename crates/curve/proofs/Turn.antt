@@ -5,13 +5,12 @@ use mathlib.Core.List.{List}
 use Prim.Native.Nat.{ℕ, _+_, _*_, _-_, _≤_, _<_}
 use native.Mathlib.Omega.{arith}
 use native.Mathlib.Decide.{decLt}
-use lib.ListN.{length}
 use Rattle.integers.specs.Rep.{le-or-lt}
 use Rattle.quadratic.specs.declared.Quad.{Quad}
 use Rattle.quadratic.specs.Quad.{mirrored}
 use Rattle.curve.specs.Pieces.{endOf, startOf, quadAt, piece, Formed, Built, Is, Kept, Same, Stored, Made, Lent, mirrorOf}
 use Rattle.curve.specs.Lists.{start-next, start-zero, end-lt, piece-at, kept-refl, kept-then, kept-wider, kept-lent, same-end, same-quad, count-most, count-is, formed, closed}
-use Rattle.curve.proofs.Laws.{start-pos}
+use Rattle.curve.proofs.Laws.{At, Seen, seen, start-pos}
 
 -- the first r pieces of the list at f stand mirrored as the last r of the m at dst
 pub record Turned (s L : ℕ) (ws ws′ : List ℕ) (f dst m r : ℕ) : Type 0 where
@@ -97,54 +96,39 @@ turning-none {L} {ws} {f} {m} s dst b = record { whole = b; begins = sym (start-
 pub record NextPiece (s L : ℕ) (ws ws′ : List ℕ) (f dst m n i x : ℕ) : Type 0 where
   pub inside : i < m
   pub most : m ≤ L
-  pub room : f + 4 * i + 4 ≤ length ws′
-  pub from : x ≤ endOf ws′ f i
-  pub to : endOf ws′ f i < L
-  pub is : piece ws f L x ≡ quadAt ws′ (f + 4 * i)
+  pub seen : Seen ws ws′ f L i x
   pub more : {ws″ : List ℕ} {q : Quad} → Stored ws′ ws″ (dst + 4 * (n - 1)) (L - 1 - x) q → q ≡ mirrored s (quadAt ws′ (f + 4 * i)) → Turning s L ws ws″ f dst m (n - 1) (i + 1) (endOf ws′ f i + 1)
 
 pub next-piece : {s L : ℕ} {ws ws′ : List ℕ} {f dst m n i x : ℕ} → Lent ws f dst (4 * L) L → Turning s L ws ws′ f dst m n i x → x < L → NextPiece s L ws ws′ f dst m n i x
 next-piece {s} {L} {ws} {ws′} {f} {dst} {m} {n} {i} {x} l t h = record {
   inside = inside;
   most = most;
-  room = omega (arith, l .room, same, inside, t .turned .kept .size);
-  from = omega (arith, ee, t .begins, b .rising i inside);
-  to = omega (arith, ee, low);
-  is = piece-at ws f L m i x (b .rising) most inside (omega (arith, t .begins)) (omega (arith, t .begins, b .rising i inside)) ∙ sym eq;
+  seen = here;
   more = λ w e. record {
-    whole = b;
-    begins = ap (λ (y : ℕ). y + 1) ee ∙ sym (start-next ws f i);
+    whole = t .whole;
+    begins = ap (λ (y : ℕ). y + 1) (same-end kept i (omega (arith, same, inside))) ∙ sym (start-next ws f i);
     left = omega (arith, t .left, inside);
-    turned = turned-more (n - 1) i x (omega (arith, t .left, inside)) (t .turned) w (t .begins) (e ∙ ap (mirrored s) eq);
+    turned = turned-more (n - 1) i x (omega (arith, t .left, inside)) (t .turned) w (t .begins) (e ∙ ap (mirrored s) (same-quad kept i (omega (arith, same, inside))));
   };
 }
   where
-    b : Built (Is (piece ws f L)) ws f m L
-    b = t .whole
+    same : m ≡ l .formed .count
+    same = count-is (t .whole) (l .formed)
 
     most : m ≤ L
-    most = count-most (record { count = m; ends = b .ends; rising = b .rising })
+    most = omega (arith, same, count-most (l .formed))
 
-    same : m ≡ l .formed .count
-    same = count-is b (l .formed)
+    at : At ws f L i x
+    at = record { formed = l .formed; inside = omega (arith, t .left, same); low = omega (arith, t .begins); high = λ u. omega (arith, t .begins, l .formed .rising i u) }
+
+    here : Seen ws ws′ f L i x
+    here = seen (t .turned .kept) (omega (arith, most)) l at h
 
     inside : i < m
-    inside = ⊎-elim (λ p. absurd (past p)) (λ p. p) (le-or-lt m i)
-      where
-        past : m ≤ i → ⊥
-        past p = let e : i ≡ m = omega (arith, t .left) in omega (arith, t .begins, ap (startOf ws f) e, b .ends)
-
-    low : endOf ws f i < L
-    low = omega (arith, end-lt ws f m (b .rising) i m inside (omega arith), b .ends)
+    inside = omega (arith, same, here .within (l .formed))
 
     kept : Same ws ws′ f (4 * l .formed .count)
     kept = kept-lent (t .turned .kept) (omega (arith, most)) l
-
-    ee : endOf ws′ f i ≡ endOf ws f i
-    ee = same-end kept i (omega (arith, same, inside))
-
-    eq : quadAt ws′ (f + 4 * i) ≡ quadAt ws (f + 4 * i)
-    eq = same-quad kept i (omega (arith, same, inside))
 
 pub turned-all : {s L : ℕ} {ws ws′ : List ℕ} {f dst m n i x : ℕ} → Turning s L ws ws′ f dst m n i x → L ≤ x → Made (mirrorOf s L (piece ws f L)) ws ws′ dst L
 turned-all {s} {L} {ws} {ws′} {f} {dst} {m} {n} {i} {x} t h =

@@ -36,16 +36,16 @@ mul-at : tie.Need-mul-at Inv-loop μ-loop
 mul-at c = let t = next-piece (c .before .before .before .before .before .pre .0 .0) (c .before .loop .inv .1) (c .loop-test .taken) in omega (arith, t .inside, t .most, c .before .before .before .before .before .pre .1 .0)
 
 add-at : tie.Need-add-at Inv-loop μ-loop
-add-at c = let t = next-piece (c .before .before .before .before .before .pre .0 .0) (c .before .loop .inv .1) (c .loop-test .taken) in omega (arith, t .room, c .before .before .before .before .before .good .0 .1)
+add-at c = let t = next-piece (c .before .before .before .before .before .pre .0 .0) (c .before .loop .inv .1) (c .loop-test .taken) in omega (arith, t .seen .room, c .before .before .before .before .before .good .0 .1)
 
 mul-e : tie.Need-mul-e Inv-loop μ-loop
-mul-e c = let t = next-piece (c .before .before .before .before .before .pre .0 .0) (c .before .loop .inv .1) (c .loop-test .taken) in omega (arith, t .room, c .before .before .before .before .before .good .0 .1)
+mul-e c = let t = next-piece (c .before .before .before .before .before .pre .0 .0) (c .before .loop .inv .1) (c .loop-test .taken) in omega (arith, t .seen .room, c .before .before .before .before .before .good .0 .1)
 
 slice-read-e : tie.Need-slice-read-e Inv-loop μ-loop
-slice-read-e c = let t = next-piece (c .before .before .before .before .before .before .pre .0 .0) (c .before .before .loop .inv .1) (c .before .loop-test .taken) in omega (arith, t .room)
+slice-read-e c = let t = next-piece (c .before .before .before .before .before .before .pre .0 .0) (c .before .before .loop .inv .1) (c .before .loop-test .taken) in omega (arith, t .seen .room)
 
 load-requires : tie.Need-load-requires Inv-loop μ-loop
-load-requires c κs = next-piece (c .before .before .before .before .before .before .before .pre .0 .0) (c .before .before .before .loop .inv .1) (c .before .before .loop-test .taken) .room
+load-requires c κs = next-piece (c .before .before .before .before .before .before .before .pre .0 .0) (c .before .before .before .loop .inv .1) (c .before .before .loop-test .taken) .seen .room
 
 mul-mirror : tie.Need-mul-mirror Inv-loop μ-loop
 mul-mirror c = omega (arith, c .before .before .before .before .before .before .before .before .pre .1 .0)
@@ -57,7 +57,7 @@ add-mirror : tie.Need-add-mirror Inv-loop μ-loop
 add-mirror c = omega (arith, c .before .before .before .before .before .before .before .before .pre .1 .0)
 
 mirror-requires : tie.Need-mirror-requires Inv-loop μ-loop
-mirror-requires c κs = let t = next-piece (c .before .before .before .before .before .before .before .before .pre .0 .0) (c .before .before .before .before .loop .inv .1) (c .before .before .before .loop-test .taken) in let q = subst (Turnable (2 * c .before .before .before .before .before .before .before .before .args .base + (c .before .before .before .before .before .before .before .before .args .levels - 1))) (t .is ∙ sym (c .load .ensures)) (c .before .before .before .before .before .before .before .before .pre .1 .1 (c .before .before .before .before .loop .x) (c .before .before .before .loop-test .taken)) in ((small (q .sized), omega (arith, c .before .before .before .before .before .before .before .before .pre .1 .0)), (q .sum, q .rest))
+mirror-requires c κs = let t = next-piece (c .before .before .before .before .before .before .before .before .pre .0 .0) (c .before .before .before .before .loop .inv .1) (c .before .before .before .loop-test .taken) in let q = subst (Turnable (2 * c .before .before .before .before .before .before .before .before .args .base + (c .before .before .before .before .before .before .before .before .args .levels - 1))) (t .seen .is (c .before .before .before .before .loop .x) (omega arith) (t .seen .from) ∙ sym (c .load .ensures)) (c .before .before .before .before .before .before .before .before .pre .1 .1 (c .before .before .before .before .loop .x) (c .before .before .before .loop-test .taken)) in ((small (q .sized), omega (arith, c .before .before .before .before .before .before .before .before .pre .1 .0)), (q .sum, q .rest))
 
 mul-store : tie.Need-mul-store Inv-loop μ-loop
 mul-store c = let t = next-piece (c .before .before .before .before .before .before .before .before .before .before .pre .0 .0) (c .before .before .before .before .before .before .loop .inv .1) (c .before .before .before .before .before .loop-test .taken) in omega (arith, t .inside, t .most, c .before .before .before .before .before .before .loop .inv .1 .left, c .before .before .before .before .before .before .before .before .before .before .pre .1 .0)
@@ -78,13 +78,13 @@ add-i : tie.Need-add-i Inv-loop μ-loop
 add-i c = let t = next-piece (c .before .before .before .before .before .before .before .before .before .before .before .before .before .pre .0 .0) (c .before .before .before .before .before .before .before .before .before .loop .inv .1) (c .before .before .before .before .before .before .before .before .loop-test .taken) in omega (arith, t .inside, t .most, c .before .before .before .before .before .before .before .before .before .before .before .before .before .pre .1 .0)
 
 add-x : tie.Need-add-x Inv-loop μ-loop
-add-x c = let t = next-piece (c .before .before .before .before .before .before .before .before .before .before .before .before .before .pre .0 .0) (c .before .before .before .before .before .before .before .before .before .loop .inv .1) (c .before .before .before .before .before .before .before .before .loop-test .taken) in omega (arith, t .to, c .before .before .before .before .before .before .before .before .before .before .before .before .before .pre .1 .0)
+add-x c = let t = next-piece (c .before .before .before .before .before .before .before .before .before .before .before .before .before .pre .0 .0) (c .before .before .before .before .before .before .before .before .before .loop .inv .1) (c .before .before .before .before .before .before .before .before .loop-test .taken) in omega (arith, t .seen .to, c .before .before .before .before .before .before .before .before .before .before .before .before .before .pre .1 .0)
 
 loop-less : tie.Need-loop-less Inv-loop μ-loop
-loop-less c = let t = next-piece (c .before .before .before .before .before .before .before .before .before .before .before .before .before .pre .0 .0) (c .before .before .before .before .before .before .before .before .before .loop .inv .1) (c .before .before .before .before .before .before .before .before .loop-test .taken) in omega (arith, t .from, c .before .before .before .before .before .before .before .before .loop-test .taken)
+loop-less c = let t = next-piece (c .before .before .before .before .before .before .before .before .before .before .before .before .before .pre .0 .0) (c .before .before .before .before .before .before .before .before .before .loop .inv .1) (c .before .before .before .before .before .before .before .before .loop-test .taken) in omega (arith, t .seen .from, c .before .before .before .before .before .before .before .before .loop-test .taken)
 
 loop-again : tie.Need-loop-again Inv-loop μ-loop
-loop-again c = let t = next-piece (c .before .before .before .before .before .before .before .before .before .before .before .before .before .pre .0 .0) (c .before .before .before .before .before .before .before .before .before .loop .inv .1) (c .before .before .before .before .before .before .before .before .loop-test .taken) in (omega (arith, t .to), t .more (c .before .before .store .ensures) (c .before .before .before .before .mirror .ensures ∙ ap (mirrored (2 * c .before .before .before .before .before .before .before .before .before .before .before .before .before .args .base + (c .before .before .before .before .before .before .before .before .before .before .before .before .before .args .levels - 1))) (c .before .before .before .before .before .load .ensures)))
+loop-again c = let t = next-piece (c .before .before .before .before .before .before .before .before .before .before .before .before .before .pre .0 .0) (c .before .before .before .before .before .before .before .before .before .loop .inv .1) (c .before .before .before .before .before .before .before .before .loop-test .taken) in (omega (arith, t .seen .to), t .more (c .before .before .store .ensures) (c .before .before .before .before .mirror .ensures ∙ ap (mirrored (2 * c .before .before .before .before .before .before .before .before .before .before .before .before .before .args .base + (c .before .before .before .before .before .before .before .before .before .before .before .before .before .args .levels - 1))) (c .before .before .before .before .before .load .ensures)))
 
 same-length : tie.Need-same-length Inv-loop μ-loop
 same-length c = c .before .loop .inv .1 .turned .kept .size
