@@ -60,7 +60,7 @@ pub fn label_in(code: &[u64], i: usize) -> Label
     }
 }
 
-// The number of an edge.
+// The number of an edge: from, to, class and kind with 8 bits each, lowest first, and the gap above them.
 fn edge_number(e: Edge) -> u64
     ensures { λ r. ⌜ edgeIn r ≡ e ⌝ }
 {
@@ -71,7 +71,7 @@ fn edge_number(e: Edge) -> u64
     ends + 65536 * (e.class as u64) + 16777216 * number + 4294967296 * gap
 }
 
-// The number of a label.
+// The number of a label: p and q with 16 bits each, lowest first, and c above them.
 fn label_number(l: Label) -> u64
     ensures { λ r. ⌜ labelIn r ≡ l ⌝ }
 {
