@@ -17,11 +17,11 @@ use Rattle.curve.specs.declared.Low.{Low}
 use Rattle.curve.specs.Pieces.{piece, Held}
 use Rattle.curve.specs.Lows.{costs, Least, LeastIn}
 use Rattle.curve.specs.Curve.{Curve, Limits, curve-fine, curve-most}
-use Rattle.layer.specs.Edge.{Sound}
-use Rattle.layers.specs.declared.Shape.{Shape}
-use Rattle.layers.specs.Layer.{listAt, ShapeOf}
+use Rattle.edges.specs.Edge.{Sound}
+use Rattle.layer.specs.declared.Shape.{Shape}
+use Rattle.layer.specs.Layer.{listAt, ShapeOf}
 use Rattle.back.specs.Read.{Readable, Reads, min-one-more, min-none-yet}
-use Rattle.layers.proofs.Next.{min-ext}
+use Rattle.layer.proofs.Next.{min-ext}
 
 module _ {cur : ℕ} {g : Shape} {ws : List ℕ} (a : Readable cur g ws) (k s : ℕ) (hk : k < counts) (hs : s < g .states) (f : ℕ) (ef : f ≡ listAt cur (g .states) (g .levels) k s) where
   pub held : Held ws f (g .levels)

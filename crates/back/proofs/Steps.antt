@@ -20,10 +20,10 @@ use Rattle.labels.specs.Boundary.{leadsFrom, leads-at}
 use Rattle.curve.specs.declared.Low.{Low}
 use Rattle.curve.specs.Pieces.{piece}
 use Rattle.curve.specs.Lows.{costs}
-use Rattle.layer.specs.Back.{LeastOf, Offered, offered, offered-none, least-same}
-use Rattle.layers.specs.declared.Shape.{Shape}
-use Rattle.layers.specs.Layer.{listAt, ShapeOf}
-use Rattle.layers.specs.Step.{source}
+use Rattle.edges.specs.Back.{LeastOf, Offered, offered, offered-none, least-same}
+use Rattle.layer.specs.declared.Shape.{Shape}
+use Rattle.layer.specs.Layer.{listAt, ShapeOf}
+use Rattle.layer.specs.Step.{source}
 use Rattle.back.specs.Read.{Readable, Reads}
 use Rattle.back.specs.Step.{meetsAt, MayOffer, Offers, BackReady, Meets, StepFound}
 

@@ -20,11 +20,11 @@ use Rattle.curve.specs.declared.Low.{Low}
 use Rattle.curve.specs.Pieces.{piece}
 use Rattle.curve.specs.Lows.{costs, Least, LeastIn}
 use Rattle.curve.specs.Curve.{Curve, Limits, curve-costs, curve-wider, curve-most}
-use Rattle.layer.specs.Edge.{Sound}
-use Rattle.layers.specs.declared.Shape.{Shape}
-use Rattle.layers.specs.Layer.{stepMost, baseOf, listAt, Shape-small, ShapeOf, Layer}
-use Rattle.layers.specs.Next.{Task}
-use Rattle.layers.proofs.Next.{to-shape, limits, shape-small, some-levels, list-is}
+use Rattle.edges.specs.Edge.{Sound}
+use Rattle.layer.specs.declared.Shape.{Shape}
+use Rattle.layer.specs.Layer.{stepMost, baseOf, listAt, Shape-small, ShapeOf, Layer}
+use Rattle.layer.specs.Next.{Task}
+use Rattle.layer.proofs.Next.{to-shape, limits, shape-small, some-levels, list-is}
 use Rattle.back.specs.declared.End.{End}
 
 abbrev pub lesserOf : ℕ → ℕ → ℕ

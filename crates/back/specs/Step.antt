@@ -18,10 +18,10 @@ use Rattle.labels.specs.Boundary.{leadsFrom}
 use Rattle.curve.specs.declared.Low.{Low}
 use Rattle.curve.specs.Pieces.{piece}
 use Rattle.curve.specs.Lows.{costs}
-use Rattle.layer.specs.Back.{LeastOf}
-use Rattle.layers.specs.declared.Shape.{Shape}
-use Rattle.layers.specs.Layer.{ShapeOf}
-use Rattle.layers.specs.Step.{source}
+use Rattle.edges.specs.Back.{LeastOf}
+use Rattle.layer.specs.declared.Shape.{Shape}
+use Rattle.layer.specs.Layer.{ShapeOf}
+use Rattle.layer.specs.Step.{source}
 use Rattle.back.specs.declared.Back.{Back}
 use Rattle.back.specs.declared.Back.the-variants.{To, Lost}
 

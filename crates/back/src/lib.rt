@@ -2,14 +2,14 @@
 // All functions here are inner ones: their `requires` say where the layer stands.
 use curve::Low;
 use labels::Cover;
-use layers::Shape;
+use layer::Shape;
 use plan::Edge;
 use plan::Plan;
 ghost use mathlib.Core.Path.{_≡_};
 ghost use Prim.Native.Nat.{ℕ, _+_, _*_, _≤_, _<_};
 ghost use Rattle.model.specs.Held.{Table};
 ghost use Rattle.model.specs.Ends.{pointAt};
-ghost use Rattle.layers.specs.Layer.{ShapeOf};
+ghost use Rattle.layer.specs.Layer.{ShapeOf};
 ghost use Rattle.coded.specs.Coded.{Coded};
 ghost use Rattle.labels.specs.Boundary.{labelOf};
 ghost use Rattle.back.specs.Step.{MayOffer, Offers, meetsAt, BackReady, StepTo};
@@ -27,11 +27,11 @@ fn better_end(ws: &[u64], plan: Plan, cur: usize, g: Shape, s: usize, best: End)
     requires { ⌜ Readable cur g (now ws) × (ShapeOf plan g × (s < plan .states)) ⌝ }
     ensures { λ r. ⌜ ((H : Table) → Reads cur g (now (ws .entry)) H → EndTo plan H s best → EndTo plan H (s + 1) r) ⌝ }
 {
-    if !layers::in_set(plan.end, s) {
+    if !layer::in_set(plan.end, s) {
         return best;
     }
     let levels = g.levels;
-    let f = layers::list_at(cur, g, 0, s);
+    let f = layer::list_at(cur, g, 0, s);
     let low = curve::least_in(ws, f, 0, levels - 1, levels, g.base);
     if low.value < best.value {
         End {
@@ -77,7 +77,7 @@ pub fn point_cost(ws: &[u64], cur: usize, g: Shape, s: usize, j: u64) -> u64
     let mut best = quadratic::NONE;
     let mut k = 0;
     while k < labels::COUNTS {
-        let f = layers::list_at(cur, g, k, s);
+        let f = layer::list_at(cur, g, k, s);
         best = lesser(best, curve::value_at(ws, f, j, g.levels, g.base));
         k += 1;
     }
@@ -107,8 +107,8 @@ fn offer_of(
     }
     let kind = e.kind;
     let before = labels::count_before(on, t, kind, k);
-    let f = layers::list_at(cur, g, before, e.from as usize);
-    layer::least_before(ws, f, kind, j, g.levels, g.base)
+    let f = layer::list_at(cur, g, before, e.from as usize);
+    edges::least_before(ws, f, kind, j, g.levels, g.base)
 }
 
 // A cost there is, which with the penalty is the wanted one.

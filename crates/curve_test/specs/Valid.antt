@@ -13,7 +13,7 @@ use Rattle.curve.specs.Pieces.{piece, Built, Formed, Held, Same, Apart, Copyabl
 use Rattle.curve.specs.Lists.{closed, count-le, count-most}
 use Rattle.curve.specs.Lows.{costs}
 use Rattle.curve.specs.Curve.{Curve, Limits, curve-wider, curve-copyable}
-use Rattle.layer.specs.Edge.{Sound, Hand, Into, Ready}
+use Rattle.edges.specs.Edge.{Sound, Hand, Into, Ready}
 
 -- a list whose values are none or below 2^53
 abbrev pub Listed : List ℕ → ℕ → ℕ → ℕ → Type 0

@@ -172,7 +172,7 @@ pub fn edge(
         return 1048577;
     }
     let kind = kind_of(number, gap);
-    layer::take_edge(ws, acc, next, work, f, kind, pen, levels, base)
+    edges::take_edge(ws, acc, next, work, f, kind, pen, levels, base)
 }
 
 // The least on a range; level 1048577 where the list may not be read.
@@ -203,7 +203,7 @@ pub fn before(ws: &[u64], f: usize, number: u64, gap: u64, j: u64, levels: u64, 
         return bad;
     }
     let kind = kind_of(number, gap);
-    layer::least_before(ws, f, kind, j, levels, base)
+    edges::least_before(ws, f, kind, j, levels, base)
 }
 
 // What the list at f costs at level j; more than any cost where it may not be read.

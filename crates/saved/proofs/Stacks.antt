@@ -17,9 +17,9 @@ use Rattle.model.specs.Ends.{tableAt}
 use Rattle.curve.specs.Pieces.{Held}
 use Rattle.curve.specs.Lists.{count-most, count-same}
 use Rattle.curve.specs.Curve.{Curve, curve-same}
-use Rattle.layers.specs.Layer.{stepMost, baseOf, listAt, Layer}
-use Rattle.layers.specs.Next.{layerWords}
-use Rattle.layers.proofs.Next.{list-within}
+use Rattle.layer.specs.Layer.{stepMost, baseOf, listAt, Layer}
+use Rattle.layer.specs.Next.{layerWords}
+use Rattle.layer.proofs.Next.{list-within}
 use Rattle.saved.specs.Packed.{Chain, Inside, Row, Packing, Unpacked}
 use Rattle.saved.specs.Walk.{stackAt, limit, Packed, Entry, Stack, timeOf, offOf, Pushed, Dropped}
 use Rattle.saved.proofs.Chains.{chain-low, chain-next, chain-part, chain-same}

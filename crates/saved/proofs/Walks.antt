@@ -12,10 +12,10 @@ use Rattle.integers.specs.Rep.{le-or-lt}
 use Rattle.plan.specs.declared.Plan.{Plan}
 use Rattle.model.specs.Model.{width}
 use Rattle.model.specs.Labels.{counts}
-use Rattle.layers.specs.declared.Shape.{Shape}
-use Rattle.layers.specs.Layer.{Layer}
-use Rattle.layers.specs.Next.{layerWords, StepReady, Stepped, StartReady}
-use Rattle.layers.proofs.Next.{shape-small}
+use Rattle.layer.specs.declared.Shape.{Shape}
+use Rattle.layer.specs.Layer.{Layer}
+use Rattle.layer.specs.Next.{layerWords, StepReady, Stepped, StartReady}
+use Rattle.layer.proofs.Next.{shape-small}
 use Rattle.saved.specs.declared.Walk.{Walk}
 use Rattle.saved.specs.declared.Room.{Room}
 use Rattle.saved.specs.declared.Room.the-variants.{Upto}

@@ -10,9 +10,9 @@ use Rattle.model.specs.Model.{width}
 use Rattle.model.specs.Labels.{counts}
 use Rattle.model.specs.Ends.{tableAt}
 use Rattle.curve.specs.Curve.{Curve}
-use Rattle.layers.specs.declared.Shape.{Shape}
-use Rattle.layers.specs.Layer.{stepMost, baseOf, Shape-small, Layer}
-use Rattle.layers.specs.Next.{Task, layerWords}
+use Rattle.layer.specs.declared.Shape.{Shape}
+use Rattle.layer.specs.Layer.{stepMost, baseOf, Shape-small, Layer}
+use Rattle.layer.specs.Next.{Task, layerWords}
 use Rattle.saved.specs.declared.Walk.{Walk}
 use Rattle.saved.specs.Packed.{Chain, Inside, Row}
 

@@ -3,13 +3,13 @@
 //
 // The words of the workspace, with S states and L levels: two layers from 0 and from 8 · S · L, three lists of next_layer from
 // 16 · S · L, and the stack of saved layers from 16 · S · L + 12 · L up to 48 · S · L.
-use layers::Shape;
+use layer::Shape;
 use plan::Plan;
 ghost use mathlib.Core.Path.{_≡_};
 ghost use Prim.Native.Nat.{_+_, _*_, _≤_, _<_};
 ghost use lib.ListN.{length};
 ghost use Rattle.coded.specs.Coded.{Coded};
-ghost use Rattle.layers.specs.Layer.{Shape-small};
+ghost use Rattle.layer.specs.Layer.{Shape-small};
 ghost use Rattle.saved.specs.Packed.{Row, PackReady, Saves, UnpackReady, Unpacked};
 ghost use Rattle.saved.specs.Walk.{Workspace, At, Goes, Walked, Reached, Places, Stack, Pushed, Dropped, Restarted, Stops};
 
@@ -198,7 +198,7 @@ fn restart(
 {
     if count == 0 {
         let free = 16 * area(g);
-        layers::first_layer(ws, plan, readings, cur, free, g);
+        layer::first_layer(ws, plan, readings, cur, free, g);
         return Walk {
             time: 1,
             cur,
@@ -238,7 +238,7 @@ fn forward(
     let mut cur = walk.cur;
     let mut other = walk.other;
     while time < x {
-        layers::next_layer(ws, plan, code, readings, time, cur, other, free, g);
+        layer::next_layer(ws, plan, code, readings, time, cur, other, free, g);
         let last = cur;
         cur = other;
         other = last;

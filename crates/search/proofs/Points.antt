@@ -24,9 +24,9 @@ use Rattle.model.specs.Held.{Table}
 use Rattle.model.specs.Ends.{tableAt, pointAt, point-by}
 use Rattle.model.specs.Tables.{ready-point, table-held}
 use Rattle.model.specs.Result.{Result, found, refused, point, foundCost, resultOf}
-use Rattle.layers.specs.declared.Shape.{Shape}
-use Rattle.layers.specs.Layer.{Layer, ShapeOf, baseOf}
-use Rattle.layers.specs.Next.{Task}
+use Rattle.layer.specs.declared.Shape.{Shape}
+use Rattle.layer.specs.Layer.{Layer, ShapeOf, baseOf}
+use Rattle.layer.specs.Next.{Task}
 use Rattle.saved.specs.declared.Walk.{Walk}
 use Rattle.saved.specs.Packed.{Inside}
 use Rattle.saved.specs.Walk.{Workspace, At, Walked, limit}

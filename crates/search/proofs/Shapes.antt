@@ -12,8 +12,8 @@ use Rattle.plan.specs.declared.Plan.{Plan}
 use Rattle.model.specs.Model.{width, above}
 use Rattle.model.specs.Grid.{above-add}
 use Rattle.model.specs.Checked.{Checked}
-use Rattle.layers.specs.declared.Shape.{Shape}
-use Rattle.layers.specs.Layer.{baseOf, ShapeOf}
+use Rattle.layer.specs.declared.Shape.{Shape}
+use Rattle.layer.specs.Layer.{baseOf, ShapeOf}
 
 -- a 16-bit number is read back as itself
 pub place-is : (z : ℤ) (u : ℕ) → mag z < 2 ^ hbits w16 → pos u ≡ toZ w16 (ofZ w16 z) +ℤ pos 163840 → pos u ≡ z +ℤ pos 163840

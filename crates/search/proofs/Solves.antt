@@ -30,9 +30,9 @@ use Rattle.model.specs.Ends.{tableAt, leastEndAt, none-by, found-by, walk-first
 use Rattle.model.specs.Runs.{walkBack}
 use Rattle.model.specs.Tables.{Ready, ready-search, table-held, end-is}
 use Rattle.model.specs.Checked.{Checked, accepted}
-use Rattle.layers.specs.declared.Shape.{Shape}
-use Rattle.layers.specs.Layer.{Layer, ShapeOf, Shape-small, baseOf}
-use Rattle.layers.specs.Next.{Task}
+use Rattle.layer.specs.declared.Shape.{Shape}
+use Rattle.layer.specs.Layer.{Layer, ShapeOf, Shape-small, baseOf}
+use Rattle.layer.specs.Next.{Task}
 use Rattle.saved.specs.declared.Walk.{Walk}
 use Rattle.saved.specs.Packed.{Inside}
 use Rattle.saved.specs.Walk.{Workspace, At, Walked, limit}

@@ -12,9 +12,9 @@ use Rattle.model.specs.Model.{width}
 use Rattle.model.specs.Run as M
 use Rattle.model.specs.Run.{five}
 use Rattle.model.specs.Runs.{walkBack}
-use Rattle.layers.specs.declared.Shape.{Shape}
-use Rattle.layers.specs.Layer.{Layer}
-use Rattle.layers.specs.Next.{Task, layerWords}
+use Rattle.layer.specs.declared.Shape.{Shape}
+use Rattle.layer.specs.Layer.{Layer}
+use Rattle.layer.specs.Next.{Task, layerWords}
 use Rattle.saved.specs.declared.Walk.{Walk}
 use Rattle.saved.specs.Packed.{Inside}
 use Rattle.saved.specs.Walk.{Workspace, At, Stack, Walked, Goes, Places, limit}

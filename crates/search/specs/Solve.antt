@@ -8,7 +8,7 @@ use lib.ListN.{length}
 use Rattle.plan.specs.declared.Plan.{Plan}
 use Rattle.model.specs.Refusals.{searchNumber, pointNumber}
 use Rattle.model.specs.Result.{whole, point, resultOf}
-use Rattle.layers.specs.declared.Shape.{Shape}
+use Rattle.layer.specs.declared.Shape.{Shape}
 use Rattle.saved.specs.Packed.{Inside}
 use Rattle.saved.specs.Walk.{Workspace, limit}
 use Rattle.search.specs.declared.Found.{Found}

@@ -7,7 +7,7 @@ use lib.ListN.{length}
 use Rattle.plan.specs.declared.Plan.{Plan}
 use Rattle.model.specs.Run as M
 use Rattle.model.specs.Runs.{walkBack}
-use Rattle.layers.specs.declared.Shape.{Shape}
+use Rattle.layer.specs.declared.Shape.{Shape}
 use Rattle.saved.specs.declared.Walk.{Walk}
 use Rattle.saved.specs.Packed.{Inside}
 use Rattle.saved.specs.Walk.{Workspace, At, Stack, limit}

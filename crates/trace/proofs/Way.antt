@@ -26,13 +26,13 @@ use Rattle.model.specs.Held.{Table, fromCount, leadsAt, edgeLeast}
 use Rattle.model.specs.Ends.{tableAt}
 use Rattle.model.specs.Runs.{walkBack}
 use Rattle.model.specs.Tables.{Ready, MeetsAt, some-edge, step-walk, step-count}
-use Rattle.layers.specs.declared.Shape.{Shape}
-use Rattle.layers.specs.Next.{Task}
+use Rattle.layer.specs.declared.Shape.{Shape}
+use Rattle.layer.specs.Next.{Task}
 use Rattle.runs.specs.declared.Run.{Run}
 use Rattle.runs.specs.Runs.{fiveOf, Put, Holds, holds-put}
 use Rattle.quadratic.specs.Fine.{far}
-use Rattle.layer.specs.Edge.{loss-place}
-use Rattle.layers.proofs.Next.{leads-low, base-place}
+use Rattle.edges.specs.Edge.{loss-place}
+use Rattle.layer.proofs.Next.{leads-low, base-place}
 use Rattle.back.specs.Read.{Readable, Reads, layer-readable, layer-reads}
 use Rattle.back.specs.declared.Back.{Back}
 use Rattle.back.specs.declared.Back.the-variants.{To, Lost}

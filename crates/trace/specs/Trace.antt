@@ -12,9 +12,9 @@ use Rattle.model.specs.Nodes.{Node, node}
 use Rattle.model.specs.Index.{noCost}
 use Rattle.model.specs.Ends.{tableAt}
 use Rattle.model.specs.Runs.{walkBack}
-use Rattle.layers.specs.declared.Shape.{Shape}
-use Rattle.layers.specs.Layer.{Layer}
-use Rattle.layers.specs.Next.{Task}
+use Rattle.layer.specs.declared.Shape.{Shape}
+use Rattle.layer.specs.Layer.{Layer}
+use Rattle.layer.specs.Next.{Task}
 use Rattle.runs.specs.Runs.{Holds}
 use Rattle.trace.specs.declared.Point.{Point}
 

@@ -3,7 +3,7 @@
 // All functions here are inner ones: their `requires` say where the layer stands.
 use back::Back;
 use labels::Cover;
-use layers::Shape;
+use layer::Shape;
 use plan::Edge;
 use plan::Kind;
 use plan::Plan;

@@ -10,8 +10,8 @@ use Rattle.back.proofs.better_end.Tie as tie
 use Rattle.back.proofs.better_end.Reads as reads
 use Rattle.back.proofs.better_end.Lts as lts
 use Rattle.curve.proofs.least_in.Reads as least-in-reads
-use Rattle.layers.proofs.in_set.Reads as in-set-reads
-use Rattle.layers.proofs.list_at.Reads as list-at-reads
+use Rattle.layer.proofs.in_set.Reads as in-set-reads
+use Rattle.layer.proofs.list_at.Reads as list-at-reads
 
 -- src/lib.rt:26:9
 in-set-requires : tie.Need-in-set-requires

@@ -1,6 +1,6 @@
 use Rattle.back.proofs.Steps.{offers-none, offers-some}
 use Rattle.back.proofs.Ends.{sound}
-use Rattle.layers.proofs.Took.{source-is}
+use Rattle.layer.proofs.Took.{source-is}
 use borrow.Author.Tests.{not-true, not-false}
 use Prim.Native.Nat.{ℕ, _+_, _-_, _≤_, _<_}
 use native.Mathlib.Omega.{arith}
@@ -12,8 +12,8 @@ use Rattle.back.proofs.offer_of.Reads as reads
 use Rattle.back.proofs.offer_of.Lts as lts
 use Rattle.labels.proofs.count_before.Reads as count-before-reads
 use Rattle.labels.proofs.leads.Reads as leads-reads
-use Rattle.layer.proofs.least_before.Reads as least-before-reads
-use Rattle.layers.proofs.list_at.Reads as list-at-reads
+use Rattle.edges.proofs.least_before.Reads as least-before-reads
+use Rattle.layer.proofs.list_at.Reads as list-at-reads
 
 -- src/lib.rt:101:9
 leads-requires : tie.Need-leads-requires

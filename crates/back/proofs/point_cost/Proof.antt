@@ -9,7 +9,7 @@ use Rattle.back.proofs.point_cost.Reads as reads
 use Rattle.back.proofs.point_cost.Lts as lts
 use Rattle.back.proofs.lesser.Reads as lesser-reads
 use Rattle.curve.proofs.value_at.Reads as value-at-reads
-use Rattle.layers.proofs.list_at.Reads as list-at-reads
+use Rattle.layer.proofs.list_at.Reads as list-at-reads
 
 abbrev Inv-loop : tie.InvT-loop
 Inv-loop ws cur g s j best₀ k₀ best k = (k ≤ 2) × (best ≡ pointTo cur g ws s j k)

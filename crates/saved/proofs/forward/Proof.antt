@@ -2,7 +2,7 @@ use Rattle.saved.proofs.Chains.{inside-refl, inside-then}
 use Rattle.saved.proofs.Walks.{space-then, step-ready, stepped-on}
 use Rattle.saved.specs.Packed.{Inside}
 use Rattle.saved.specs.Walk.{stackAt, At}
-use Rattle.layers.proofs.Next.{shape-small}
+use Rattle.layer.proofs.Next.{shape-small}
 use native.Mathlib.Omega.{arith}
 use Prim.Native.Nat.{_-_, _≤_}
 use mathlib.Core.Path.{refl}
@@ -11,7 +11,7 @@ use Rattle.saved.proofs.forward.Statement.{statement}
 use Rattle.saved.proofs.forward.Tie as tie
 use Rattle.saved.proofs.forward.Reads as reads
 use Rattle.saved.proofs.forward.Lts as lts
-use Rattle.layers.proofs.next_layer.Reads as next-layer-reads
+use Rattle.layer.proofs.next_layer.Reads as next-layer-reads
 use Rattle.saved.proofs.area.Reads as area-reads
 
 abbrev Inv-loop : tie.InvT-loop

@@ -4,7 +4,7 @@ use native.Mathlib.Omega.{arith}
 use Prim.Native.Nat.{ℕ, suc, _+_, _-_, _*_, _≤_, _<_}
 use lib.ListN.{getD}
 use lib.IntN.{pos}
-use Rattle.layers.proofs.Next.{reading-is}
+use Rattle.layer.proofs.Next.{reading-is}
 use Rattle.labels.specs.Boundary.{labelOf}
 use Rattle.trace.proofs.Way.{loss-is, loss-fits, want-is, readable, back-ready, reads-here, lost-at, lost-of, found-of, joined-at, put-at, count-of, joins-of, five-is}
 use borrow.Author.Needs.{needs}

@@ -1,0 +1,243 @@
+-- The lists of an edge, one after the other. Assumes nothing.
+use mathlib.Core.Path.{_≡_, refl, sym, ap, _∙_}
+use mathlib.Core.Logic.{_⊎_, inl, inr, ⊎-elim}
+use mathlib.Core.Bool.{Bool, true, false, cond}
+use mathlib.Core.List.{List}
+use Prim.Native.Nat.{ℕ, _+_, _*_, _-_, _≤_, _<_, min}
+use native.Mathlib.Omega.{arith}
+use lib.Dec.{leb, ltb}
+use lib.ListN.{length}
+use borrow.Author.Tests.{le-leb, lt-leb, lt-ltb, le-ltb}
+use Rattle.integers.specs.Rep.{le-or-lt}
+use Rattle.quadratic.specs.Quad.{better, raised, pushed, flat, none}
+use Rattle.quadratic.specs.Fine.{pickN, far}
+use Rattle.curve.specs.declared.Low.{Low}
+use Rattle.curve.specs.Pieces.{piece, noneOnly, Kept, Made, shiftOf, mirrorOf}
+use Rattle.curve.specs.Lows.{lowest, prefixOf, costs, LeastIn, Least}
+use Rattle.curve.specs.Curve.{Curve, Limits, curve-as, curve-prefix, curve-shift, curve-mirror, curve-least, curve-loss, curve-flat, curve-wider, curve-costs, curve-none, curve-most, curve-value, curve-least-in}
+use Rattle.plan.specs.declared.Kind.{Kind}
+use Rattle.plan.specs.declared.Kind.the-variants.{Stay, Any, Up, Down, Abs}
+use Rattle.plan.specs.Build.{gapOf}
+use Rattle.model.specs.Index.{noCost, prefixMin, suffixMin, upMin, downMin, edgeMin, edge-min, edge-min-none, prefix-met, prefix-least}
+use Rattle.model.specs.Held.{raise}
+use Rattle.edges.specs.Edge.{Into, Joint, Hand, Sound, Ready, Spared, Moved, Joined, Taken, WithLoss, anyMin, kept-off, spared-refl, spared-then, spared-curve, spared-swap, apart-swap, hand-swap, min-regroup, raise-min, raise-none, less-min, plus-raise, lowest-prefix}
+
+pub lower-limits : {A B base L : ℕ} (C : ℕ) → C ≤ B → Limits A B base L → Limits A C base L
+lower-limits C h l = record { readings = l .readings; cost = omega (arith, l .cost); low = l .low; high = l .high }
+
+pick-cond : (b : Bool) (x y : ℕ) → (b ≡ true → x ≡ y) → pickN b x none ≡ cond b y noCost
+pick-cond true x y h = h refl
+pick-cond false x y h = refl
+
+module _ {A B base L : ℕ} (l : Limits A B base L) {ws : List ℕ} {f : ℕ} {G : ℕ → ℕ} (c : Curve A B base L ws f G) where
+  -- a running minimum is the model's
+  pub up-is : (gap j : ℕ) → j < L → pickN (leb gap j) (lowest G (j - gap + 1)) none ≡ upMin gap G j
+  unfolding upMin
+  up-is gap j h = pick-cond (leb gap j) _ _ (λ e. lowest-prefix G (j - gap) (λ i g. curve-most l c i (omega arith)))
+
+  pub down-is : (gap j : ℕ) → j < L → pickN (leb gap (L - 1 - j)) (lowest (λ (i : ℕ). G (L - 1 - i)) (L - 1 - j - gap + 1)) none ≡ downMin L gap G j
+  unfolding downMin suffixMin
+  down-is gap j h =
+      pick-cond (leb gap (L - 1 - j)) _ _ (λ e. lowest-prefix (λ (i : ℕ). G (L - 1 - i)) (L - 1 - j - gap) (λ i g. curve-most l c (L - 1 - i) (omega arith)) ∙ ap (prefixMin (λ (i : ℕ). G (L - 1 - i))) place)
+      ∙ ap (λ (b : Bool). cond b (prefixMin (λ (i : ℕ). G (L - 1 - i)) (L - 1 - (j + gap))) noCost) test
+    where
+      place : L - 1 - j - gap ≡ L - 1 - (j + gap)
+      place = omega arith
+
+      test : leb gap (L - 1 - j) ≡ ltb (j + gap) L
+      test = ⊎-elim
+          (λ g. le-leb gap (L - 1 - j) g ∙ sym (lt-ltb (j + gap) L (omega arith)))
+          (λ g. lt-leb gap (L - 1 - j) g ∙ sym (le-ltb (j + gap) L (omega arith)))
+          (le-or-lt gap (L - 1 - j))
+
+  -- the least on the whole grid
+  pub any-is : (r : Low) → 0 < L → LeastIn (costs base (piece ws f L)) 0 (L - 1) r → r .value ≡ prefixMin G (L - 1)
+  any-is r h t =
+      let g = curve-least-in c (omega arith) t .some (omega arith) in
+      let (i, k, e) = prefix-met G (L - 1) in
+      omega (arith, g .is, g .high, prefix-least G (r .level) (L - 1) (g .high), g .least i (omega arith) k)
+
+-- ---- up: the running minimum, shifted
+module _ {ws w1 : List ℕ} {base L f next work : ℕ} (h : Into f next work L (length ws)) (m1 : Made (prefixOf base (piece ws f L)) ws w1 next L) where
+  pub up1 : {A B : ℕ} {G : ℕ → ℕ} → Limits A B base L → Curve A B base L ws f G → Curve A B base L w1 next (λ (j : ℕ). lowest G (j + 1))
+  up1 l c = curve-prefix l c (h .room-next) m1
+
+  pub up-moved : {w2 : List ℕ} (gap : ℕ) → Made (shiftOf gap (piece w1 next L)) w1 w2 work L → Moved (upMin gap) base L ws w2 f next work
+  up-moved gap m2 = record {
+    spared = record { size = m2 .kept .size ∙ m1 .kept .size; word = λ i x y z. kept-off L (m2 .kept) i y ∙ kept-off L (m1 .kept) i x };
+    curve = λ A B G l c. curve-as (upMin gap G) (up-is l c gap) (curve-shift gap (up1 l c) (omega (arith, h .room-work, m1 .kept .size)) m2);
+  }
+
+-- ---- down: the same in the mirror
+module _ {ws w1 : List ℕ} {base L f next work : ℕ} (h : Into f next work L (length ws)) (m1 : Made (mirrorOf (2 * base + (L - 1)) L (piece ws f L)) ws w1 next L) where
+  pub down1 : {A B : ℕ} {G : ℕ → ℕ} → Limits A B base L → Curve A B base L ws f G → Curve A B base L w1 next (λ (j : ℕ). G (L - 1 - j))
+  down1 l c = curve-mirror l c (h .room-next) m1
+
+  module _ {w2 : List ℕ} (m2 : Made (prefixOf base (piece w1 next L)) w1 w2 work L) where
+    pub down2 : {A B : ℕ} {G : ℕ → ℕ} → Limits A B base L → Curve A B base L ws f G → Curve A B base L w2 work (λ (j : ℕ). lowest (λ (i : ℕ). G (L - 1 - i)) (j + 1))
+    down2 l c = curve-prefix l (down1 l c) (omega (arith, h .room-work, m1 .kept .size)) m2
+
+    module _ {w3 : List ℕ} (gap : ℕ) (m3 : Made (shiftOf gap (piece w2 work L)) w2 w3 next L) where
+      pub down3 : {A B : ℕ} {G : ℕ → ℕ} → Limits A B base L → Curve A B base L ws f G → Curve A B base L w3 next (λ (j : ℕ). pickN (leb gap j) (lowest (λ (i : ℕ). G (L - 1 - i)) (j - gap + 1)) none)
+      down3 l c = curve-shift gap (down2 l c) (omega (arith, h .room-next, m1 .kept .size, m2 .kept .size)) m3
+
+      pub down-moved : {w4 : List ℕ} → Made (mirrorOf (2 * base + (L - 1)) L (piece w3 next L)) w3 w4 work L → Moved (downMin L gap) base L ws w4 f next work
+      down-moved m4 = record {
+        spared = record { size = m4 .kept .size ∙ m3 .kept .size ∙ m2 .kept .size ∙ m1 .kept .size; word = λ i x y z. kept-off L (m4 .kept) i y ∙ kept-off L (m3 .kept) i x ∙ kept-off L (m2 .kept) i y ∙ kept-off L (m1 .kept) i x };
+        curve = λ A B G l c. curve-as (downMin L gap G) (down-is l c gap) (curve-mirror l (down3 l c) (omega (arith, h .room-work, m1 .kept .size, m2 .kept .size, m3 .kept .size)) m4);
+      }
+
+-- ---- any: one number
+pub any-moved : {ws w1 : List ℕ} {base L f next work : ℕ} {r : Low} → Into f next work L (length ws) → 0 < L → LeastIn (costs base (piece ws f L)) 0 (L - 1) r → Made (λ (j : ℕ). flat (r .value)) ws w1 work L → Moved (anyMin L) base L ws w1 f next work
+any-moved {ws} {base = base} {L} {f} {r = r} h p t m = record {
+  spared = record { size = m .kept .size; word = λ i x y z. kept-off L (m .kept) i y };
+  curve = λ A B G l c. curve-as (anyMin L G) (λ j k. any-is l c r p t) (curve-flat (one l c) (h .room-work) m);
+}
+  where
+    one : {A B : ℕ} {G : ℕ → ℕ} → Limits A B base L → Curve A B base L ws f G → (r .value ≡ none) ⊎ (r .value < B)
+    one l c =
+        let g = curve-least-in c (omega arith) t .some (omega arith) in
+        ⊎-elim (λ e. inl (g .is ∙ e)) (λ e. inr (omega (arith, g .is))) (curve-value l c (r .level) (omega (arith, g .high)))
+
+-- ---- the least of two
+pub joined : {ws w1 : List ℕ} {pen base L g acc next : ℕ} → Joint acc next g L (length ws) → Made (λ (j : ℕ). better (base + j) (piece ws acc L j) (raised pen (piece ws g L j))) ws w1 next L → Joined pen base L ws w1 g acc next
+joined {pen = pen} h m = record {
+  kept = m .kept;
+  curve = λ A B C F G l k ca cg. curve-as (λ (j : ℕ). min (F j) (raise (G j) pen)) (λ j i. less-min (F j) _ ∙ ap (min (F j)) (plus-raise pen (G j) (curve-most (lower-limits C (omega arith) l) cg j i))) (curve-least pen k l ca cg (h .room-next) m);
+}
+
+-- ---- an edge: moved, then joined
+module _ {pen base L f acc next work : ℕ} {ws : List ℕ} (y : Ready acc next work f pen base L ws) where
+  spare : Limits 1048576 (18014398509481984 - pen) base L
+  spare = lower-limits _ (omega arith) (y .limits)
+
+  -- the list at f, the penalty aside
+  pub ready-from : Sound 18014398509481984 base L ws f
+  ready-from = curve-costs (curve-wider 1048576 18014398509481984 (omega arith) (omega arith) (y .from))
+
+  pub ready-stay : Joint acc next f L (length ws)
+  ready-stay = record { acc-next = y .hand .acc-next; g-next = y .hand .into .f-next; room-next = y .hand .into .room-next }
+
+  pub stay-taken : {w1 : List ℕ} → Joined pen base L ws w1 f acc next → Taken (λ (G : ℕ → ℕ). G) pen base L ws w1 f acc next work next
+  stay-taken {w1} j = record {
+    place = inr refl;
+    spared = record { size = j .kept .size; word = λ i a b c. kept-off L (j .kept) i b };
+    curve = λ A B C F G l h ca cf. j .curve A B C F G l h ca cf;
+  }
+
+  module _ {E : (ℕ → ℕ) → ℕ → ℕ} {w1 : List ℕ} (m : Moved E base L ws w1 f next work) where
+    acc-moved : {A B : ℕ} {F : ℕ → ℕ} → Curve A B base L ws acc F → Curve A B base L w1 acc F
+    acc-moved c = spared-curve (m .spared) (y .hand .acc-next) (y .hand .acc-work) (y .hand .acc-work) c
+
+    pub moved-joint : Joint acc next work L (length w1)
+    moved-joint = record { acc-next = y .hand .acc-next; g-next = apart-swap next work (4 * L) (y .hand .into .next-work); room-next = omega (arith, y .hand .into .room-next, m .spared .size) }
+
+    pub moved-acc : Sound 18014398509481984 base L w1 acc
+    moved-acc = curve-costs (acc-moved (y .so-far))
+
+    pub moved-work : Sound (18014398509481984 - pen) base L w1 work
+    moved-work = curve-costs (m .curve _ _ _ spare (y .from))
+
+    pub moved-taken : {w2 : List ℕ} → Joined pen base L w1 w2 work acc next → Taken E pen base L ws w2 f acc next work next
+    moved-taken {w2} j = record {
+      place = inr refl;
+      spared = record { size = j .kept .size ∙ m .spared .size; word = λ i a b c. kept-off L (j .kept) i b ∙ m .spared .word i b c c };
+      curve = λ A B C F G l h ca cf. j .curve A B C F (E G) l h (acc-moved ca) (m .curve A C G (lower-limits C (omega arith) l) cf);
+    }
+
+  -- ---- one after the other
+  module _ {E : (ℕ → ℕ) → ℕ → ℕ} {w1 : List ℕ} (k : Taken E pen base L ws w1 f acc next work next) where
+    from-taken : {A B : ℕ} {G : ℕ → ℕ} → Curve A B base L ws f G → Curve A B base L w1 f G
+    from-taken c = spared-curve (k .spared) (y .hand .f-acc) (y .hand .into .f-next) (y .hand .into .f-work) c
+
+    -- the two have changed places
+    pub taken-ready : Ready next acc work f pen base L w1
+    taken-ready = record {
+      hand = rw (k .spared .size) (hand-swap (y .hand));
+      low = y .low;
+      some = y .some;
+      limits = y .limits;
+      so-far = curve-costs (k .curve _ _ _ _ _ (y .limits) (omega (arith, y .low)) (y .so-far) (y .from));
+      from = curve-costs (from-taken (y .from));
+    }
+
+    pub taken-both : {D : (ℕ → ℕ) → ℕ → ℕ} (H : (ℕ → ℕ) → ℕ → ℕ) {w2 : List ℕ} → Taken D pen base L w1 w2 f next acc work acc
+        → ((A C : ℕ) (G : ℕ → ℕ) → Limits A C base L → C + pen ≤ none → Curve A C base L ws f G → (j : ℕ) → j < L → min (raise (E G j) pen) (raise (D G j) pen) ≡ raise (H G j) pen)
+        → Taken H pen base L ws w2 f acc next work acc
+    taken-both H d e = record {
+      place = inl refl;
+      spared = spared-then (k .spared) (spared-swap (d .spared));
+      curve = λ A B C F G l h ca cf. curve-as (λ (j : ℕ). min (F j) (raise (H G j) pen))
+          (λ j i. min-regroup (F j) _ _ _ (e A C G (lower-limits C (omega arith) l) (omega (arith, l .cost)) cf j i))
+          (d .curve A B C _ G l h (k .curve A B C F G l h ca cf) (from-taken cf));
+    }
+
+-- ---- each kind
+module _ {A C base L : ℕ} {ws : List ℕ} {f : ℕ} {G : ℕ → ℕ} (l : Limits A C base L) (c : Curve A C base L ws f G) (pen : ℕ) (h : C + pen ≤ none) where
+  -- what an edge offers is none, or has room for the penalty
+  edge-room : (k : Kind) (j : ℕ) → j < L → edgeMin L k G j < none → edgeMin L k G j + pen ≤ none
+  edge-room k j g p =
+      let (i, q, a, e) = edge-min L k G (omega arith) .met j g p in
+      ⊎-elim (λ n. absurd (omega arith)) (λ n. omega arith) (curve-value l c i q)
+
+  pub abs-is : (gap j : ℕ) → j < L → min (raise (upMin gap G j) pen) (raise (downMin L gap G j) pen) ≡ raise (edgeMin L (Abs gap) G j) pen
+  unfolding edgeMin
+  abs-is gap j g = raise-min (upMin gap G j) (downMin L gap G j) pen (edge-room (Up gap) j g) (edge-room (Down gap) j g)
+
+pub taken-as : {E : (ℕ → ℕ) → ℕ → ℕ} (D : (ℕ → ℕ) → ℕ → ℕ) {pen base L f acc next work r : ℕ} {ws w1 : List ℕ} → ((G : ℕ → ℕ) (j : ℕ) → E G j ≡ D G j) → Taken E pen base L ws w1 f acc next work r → Taken D pen base L ws w1 f acc next work r
+taken-as D {pen} e k = record {
+  place = k .place;
+  spared = k .spared;
+  curve = λ A B C F G l h ca cf. curve-as (λ (j : ℕ). min (F j) (raise (D G j) pen)) (λ j i. ap (λ (x : ℕ). min (F j) (raise x pen)) (e G j)) (k .curve A B C F G l h ca cf);
+}
+
+module _ {pen base L f acc next work r : ℕ} {ws w1 : List ℕ} where
+  pub stay-edge : (k : Kind) → k ≡ Stay → Taken (λ (G : ℕ → ℕ). G) pen base L ws w1 f acc next work r → Taken (edgeMin L k) pen base L ws w1 f acc next work r
+  unfolding edgeMin
+  stay-edge k e = rw e (taken-as (edgeMin L Stay) (λ G j. refl))
+
+  pub any-edge : (k : Kind) → k ≡ Any → Taken (anyMin L) pen base L ws w1 f acc next work r → Taken (edgeMin L k) pen base L ws w1 f acc next work r
+  unfolding edgeMin
+  any-edge k e = rw e (taken-as (edgeMin L Any) (λ G j. refl))
+
+  pub up-edge : (k : Kind) (g : ℕ) → k ≡ Up g → Taken (upMin g) pen base L ws w1 f acc next work r → Taken (edgeMin L k) pen base L ws w1 f acc next work r
+  unfolding edgeMin
+  up-edge k g e = rw e (taken-as (edgeMin L (Up g)) (λ G j. refl))
+
+  pub down-edge : (k : Kind) (g : ℕ) → k ≡ Down g → Taken (downMin L g) pen base L ws w1 f acc next work r → Taken (edgeMin L k) pen base L ws w1 f acc next work r
+  unfolding edgeMin
+  down-edge k g e = rw e (taken-as (edgeMin L (Down g)) (λ G j. refl))
+
+pub abs-edge : {pen base L f acc next work : ℕ} {ws w1 w2 : List ℕ} (k : Kind) (g : ℕ) → k ≡ Abs g → Ready acc next work f pen base L ws → Taken (upMin g) pen base L ws w1 f acc next work next → Taken (downMin L g) pen base L w1 w2 f next acc work acc → Taken (edgeMin L k) pen base L ws w2 f acc next work acc
+abs-edge {pen} {L = L} k g e y a b = rw e (taken-both y a (edgeMin L (Abs g)) b (λ A C G l h c j i. abs-is l c pen h g j i))
+
+-- a list that is none everywhere
+pub none-taken : {pen base L f acc next work : ℕ} {ws : List ℕ} (k : Kind) → noneOnly ws f L ≡ true → Taken (edgeMin L k) pen base L ws ws f acc next work acc
+none-taken {pen} {base} {L} {f} {acc} {next} {work} {ws} k e = record {
+  place = inl refl;
+  spared = spared-refl acc next work L ws;
+  curve = λ A B C F G l h ca cf. curve-as (λ (j : ℕ). min (F j) (raise (edgeMin L k G j) pen)) (λ j i. left (F j) (edgeMin L k G j) (curve-most l ca j i) (offers (lower-limits C (omega arith) l) cf j i)) ca;
+}
+  where
+    left : (x y : ℕ) → x ≤ none → none ≤ y → x ≡ min x (raise y pen)
+    left x y a b = let z : raise y pen ≡ y = raise-none y pen b in rw z (omega arith)
+
+    offers : {A C : ℕ} {G : ℕ → ℕ} → Limits A C base L → Curve A C base L ws f G → (j : ℕ) → j < L → none ≤ edgeMin L k G j
+    offers {G = G} l c j i = edge-min-none L (omega arith) k G j i (λ x g p. omega (arith, curve-none l c e x g))
+
+-- ---- the gap of a kind
+pub gap-up : (k : Kind) (g : ℕ) → k ≡ Up g → gapOf k ≤ 1023 → g < 1024
+gap-up k g e h = omega (arith, rw e at h)
+
+pub gap-down : (k : Kind) (g : ℕ) → k ≡ Down g → gapOf k ≤ 1023 → g < 1024
+gap-down k g e h = omega (arith, rw e at h)
+
+pub gap-abs : (k : Kind) (g : ℕ) → k ≡ Abs g → gapOf k ≤ 1023 → g < 1024
+gap-abs k g e h = omega (arith, rw e at h)
+
+-- ---- the loss of a reading
+pub with-loss : {w u base L f dst : ℕ} {ws ws′ : List ℕ} → 131072 ≤ base → base + L ≤ 196608 → (131072 ≤ u) × (u < 196608) → dst + 4 * L ≤ length ws → Made (λ (j : ℕ). pushed w u (piece ws f L j)) ws ws′ dst L → WithLoss w u base L ws ws′ f dst
+with-loss {w} {u} {base} h g p r m = record {
+  kept = m .kept;
+  curve = λ A B F l c. curve-as (λ (j : ℕ). raise (F j) (w * (far u (base + j) * far u (base + j)))) (λ j i. plus-raise (w * (far u (base + j) * far u (base + j))) (F j) (curve-most l c j i)) (curve-loss w u (λ j i. omega arith) l c r m);
+}

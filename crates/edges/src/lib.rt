@@ -1,0 +1,228 @@
+// The lists of a layer over one edge after the other: the least so far, the loss of a reading, and the step back.
+//
+// Contracts speak of costs at level indices: wherever the lists read cost F and G (`Curve`), the list written costs the model's
+// `edgeMin`, `raise` and `min` of these. Stay is the list itself, any the constant least value, up the running minimum shifted, down the
+// same in the mirror, abs both.
+//
+// Three temporary lists are handed on: acc is the least so far, the next one goes to next, and work is one to work in. They are three
+// numbers, and the place of the new least so far is one: a struct as a result would go through memory.
+//
+// An inner crate: which lists share no word, and their bounds, are `requires` (`Ready`, `Sound`).
+use curve::Low;
+use plan::Kind;
+ghost use mathlib.Core.Path.{_≡_};
+ghost use Prim.Native.Nat.{ℕ, _+_, _*_, _-_, _≤_, _<_};
+ghost use lib.Dec.{ltb};
+ghost use lib.ListN.{length};
+ghost use Rattle.plan.specs.Build.{gapOf};
+ghost use Rattle.model.specs.Index.{upMin, downMin, edgeMin, Permitted};
+ghost use Rattle.curve.specs.Pieces.{piece, Apart};
+ghost use Rattle.curve.specs.Lows.{costs};
+ghost use Rattle.curve.specs.Curve.{Limits};
+ghost use Rattle.edges.specs.Back.{LeastOf, pickLow};
+ghost use Rattle.edges.specs.Edge.{Into, Joint, Sound, Ready, Moved, Joined, Taken, anyMin, WithLoss};
+
+// work: the least of f, at every level.
+fn any_into(ws: &mut [u64], f: usize, next: usize, work: usize, levels: u64, base: u64)
+    requires { ⌜ Into f next work levels (length (now ws)) × (0 < levels) ⌝ }
+    requires { ⌜ Limits 1048576 18014398509481984 base levels × Sound 18014398509481984 base levels (now ws) f ⌝ }
+    ensures { λ r. ⌜ Moved (anyMin levels) base levels (now (ws .entry)) (now (ws .exit)) f next work ⌝ }
+{
+    let low = curve::least_in(ws, f, 0, levels - 1, levels, base);
+    let c = low.value;
+    curve::constant(ws, work, levels, c);
+}
+
+// work: at each level the least of f at the levels at least gap below.
+fn up_into(ws: &mut [u64], f: usize, gap: u64, next: usize, work: usize, levels: u64, base: u64)
+    requires { ⌜ Into f next work levels (length (now ws)) × (gap < 1024) ⌝ }
+    requires { ⌜ Limits 1048576 18014398509481984 base levels × Sound 18014398509481984 base levels (now ws) f ⌝ }
+    ensures { λ r. ⌜ Moved (upMin gap) base levels (now (ws .entry)) (now (ws .exit)) f next work ⌝ }
+{
+    curve::running_min(ws, f, next, levels, base);
+    curve::shift(ws, next, gap, work, levels);
+}
+
+// work: at each level the least of f at the levels at least gap above, which is the same in the mirror.
+fn down_into(ws: &mut [u64], f: usize, gap: u64, next: usize, work: usize, levels: u64, base: u64)
+    requires { ⌜ Into f next work levels (length (now ws)) × (gap < 1024) ⌝ }
+    requires { ⌜ Limits 1048576 18014398509481984 base levels × Sound 18014398509481984 base levels (now ws) f ⌝ }
+    ensures { λ r. ⌜ Moved (downMin levels gap) base levels (now (ws .entry)) (now (ws .exit)) f next work ⌝ }
+{
+    curve::mirror(ws, f, next, levels, base);
+    curve::running_min(ws, next, work, levels, base);
+    curve::shift(ws, work, gap, next, levels);
+    curve::mirror(ws, next, work, levels, base);
+}
+
+// The least so far and g with pen added, at next.
+fn take(ws: &mut [u64], acc: usize, next: usize, g: usize, pen: u64, levels: u64, base: u64)
+    requires { ⌜ Joint acc next g levels (length (now ws)) × (pen ≤ 18014398509481984) ⌝ }
+    requires { ⌜ Limits 1048576 18014398509481984 base levels ⌝ }
+    requires { ⌜ Sound 18014398509481984 base levels (now ws) acc × Sound (18014398509481984 - pen) base levels (now ws) g ⌝ }
+    ensures { λ r. ⌜ Joined pen base levels (now (ws .entry)) (now (ws .exit)) g acc next ⌝ }
+{
+    curve::least_of_two(ws, acc, g, pen, next, levels, base);
+}
+
+// An edge of kind any, at next.
+fn take_any(
+    ws: &mut [u64],
+    acc: usize,
+    next: usize,
+    work: usize,
+    f: usize,
+    pen: u64,
+    levels: u64,
+    base: u64,
+)
+    requires { ⌜ Ready acc next work f pen base levels (now ws) ⌝ }
+    ensures { λ r. ⌜ Taken (anyMin levels) pen base levels (now (ws .entry)) (now (ws .exit)) f acc next work next ⌝ }
+{
+    any_into(ws, f, next, work, levels, base);
+    take(ws, acc, next, work, pen, levels, base);
+}
+
+// An edge of kind up, at next.
+fn take_up(
+    ws: &mut [u64],
+    acc: usize,
+    next: usize,
+    work: usize,
+    f: usize,
+    gap: u64,
+    pen: u64,
+    levels: u64,
+    base: u64,
+)
+    requires { ⌜ Ready acc next work f pen base levels (now ws) × (gap < 1024) ⌝ }
+    ensures { λ r. ⌜ Taken (upMin gap) pen base levels (now (ws .entry)) (now (ws .exit)) f acc next work next ⌝ }
+{
+    up_into(ws, f, gap, next, work, levels, base);
+    take(ws, acc, next, work, pen, levels, base);
+}
+
+// An edge of kind down, at next.
+fn take_down(
+    ws: &mut [u64],
+    acc: usize,
+    next: usize,
+    work: usize,
+    f: usize,
+    gap: u64,
+    pen: u64,
+    levels: u64,
+    base: u64,
+)
+    requires { ⌜ Ready acc next work f pen base levels (now ws) × (gap < 1024) ⌝ }
+    ensures { λ r. ⌜ Taken (downMin levels gap) pen base levels (now (ws .entry)) (now (ws .exit)) f acc next work next ⌝ }
+{
+    down_into(ws, f, gap, next, work, levels, base);
+    take(ws, acc, next, work, pen, levels, base);
+}
+
+// The least so far with an edge from the list at f taken in: where it stands, which is acc or next. A list that is none everywhere
+// offers nothing.
+pub fn take_edge(
+    ws: &mut [u64],
+    acc: usize,
+    next: usize,
+    work: usize,
+    f: usize,
+    kind: Kind,
+    pen: u64,
+    levels: u64,
+    base: u64,
+) -> usize
+    requires { ⌜ Ready acc next work f pen base levels (now ws) × (gapOf kind ≤ 1023) ⌝ }
+    ensures { λ r. ⌜ Taken (edgeMin levels kind) pen base levels (now (ws .entry)) (now (ws .exit)) f acc next work r ⌝ }
+{
+    if curve::all_none(ws, f, levels) {
+        return acc;
+    }
+    match kind {
+        Kind::Stay => {
+            take(ws, acc, next, f, pen, levels, base);
+            next
+        }
+        Kind::Any => {
+            take_any(ws, acc, next, work, f, pen, levels, base);
+            next
+        }
+        Kind::Up(g) => {
+            take_up(ws, acc, next, work, f, g as u64, pen, levels, base);
+            next
+        }
+        Kind::Down(g) => {
+            take_down(ws, acc, next, work, f, g as u64, pen, levels, base);
+            next
+        }
+        Kind::Abs(g) => {
+            take_up(ws, acc, next, work, f, g as u64, pen, levels, base);
+            take_down(ws, next, acc, work, f, g as u64, pen, levels, base);
+            acc
+        }
+    }
+}
+
+// dst: the list at f with the loss of a reading at the place u: w times the square of the distance from each level.
+pub fn add_reading(ws: &mut [u64], f: usize, u: u64, w: u64, dst: usize, levels: u64, base: u64)
+    requires { ⌜ Apart f dst (4 * levels) × (dst + 4 * levels ≤ length (now ws)) ⌝ }
+    requires { ⌜ ((131072 ≤ u) × (u < 196608)) × ((w < 256) × (base + levels ≤ 196608)) ⌝ }
+    requires { ⌜ Limits 1048576 18014398509481984 base levels × Sound 18014398509481984 base levels (now ws) f ⌝ }
+    ensures { λ r. ⌜ WithLoss w u base levels (now (ws .entry)) (now (ws .exit)) f dst ⌝ }
+{
+    curve::add_loss(ws, f, u, w, dst, levels);
+}
+
+// The lower of two, the first where they are equal.
+fn lower_of(a: Low, b: Low) -> Low
+    ensures { λ r. ⌜ r ≡ pickLow (ltb (b .value) (a .value)) b a ⌝ }
+{
+    if b.value < a.value { b } else { a }
+}
+
+// The least of f at the levels at least gap below j, with the lowest of them that has it.
+fn least_below(ws: &[u64], f: usize, gap: u64, j: u64, levels: u64, base: u64) -> Low
+    requires { ⌜ Limits 1048576 18014398509481984 base levels × Sound 18014398509481984 base levels (now ws) f ⌝ }
+    requires { ⌜ j < levels ⌝ }
+    ensures { λ r. ⌜ LeastOf (λ (i : ℕ). i + gap ≤ j) levels (costs base (piece (now (ws .entry)) f levels)) r ⌝ }
+{
+    if gap <= j {
+        curve::least_in(ws, f, 0, j - gap, levels, base)
+    } else {
+        Low {
+            value: quadratic::NONE + 1,
+            level: 0,
+        }
+    }
+}
+
+// The least of f at the levels at least gap above j, with the lowest of them that has it.
+fn least_above(ws: &[u64], f: usize, gap: u64, j: u64, levels: u64, base: u64) -> Low
+    requires { ⌜ Limits 1048576 18014398509481984 base levels × Sound 18014398509481984 base levels (now ws) f ⌝ }
+    requires { ⌜ (j < levels) × (gap < 1024) ⌝ }
+    ensures { λ r. ⌜ LeastOf (λ (i : ℕ). j + gap ≤ i) levels (costs base (piece (now (ws .entry)) f levels)) r ⌝ }
+{
+    curve::least_in(ws, f, j + gap, levels - 1, levels, base)
+}
+
+// The least of f at the levels from which an edge of the kind leads to level j, with the lowest of them that has it;
+// none, or more, where there is no cost.
+pub fn least_before(ws: &[u64], f: usize, kind: Kind, j: u64, levels: u64, base: u64) -> Low
+    requires { ⌜ Limits 1048576 18014398509481984 base levels × Sound 18014398509481984 base levels (now ws) f ⌝ }
+    requires { ⌜ (j < levels) × (gapOf kind ≤ 1023) ⌝ }
+    ensures { λ r. ⌜ LeastOf (λ (i : ℕ). Permitted kind i j) levels (costs base (piece (now (ws .entry)) f levels)) r ⌝ }
+{
+    match kind {
+        Kind::Stay => curve::least_in(ws, f, j, j, levels, base),
+        Kind::Any => curve::least_in(ws, f, 0, levels - 1, levels, base),
+        Kind::Up(g) => least_below(ws, f, g as u64, j, levels, base),
+        Kind::Down(g) => least_above(ws, f, g as u64, j, levels, base),
+        Kind::Abs(g) => {
+            let below = least_below(ws, f, g as u64, j, levels, base);
+            let above = least_above(ws, f, g as u64, j, levels, base);
+            lower_of(below, above)
+        }
+    }
+}

@@ -1,0 +1,276 @@
+-- One list of the next layer: the least over the edges, then the loss. Assumes nothing.
+use mathlib.Core.Path.{_≡_, refl, sym, _∙_, ap, subst}
+use mathlib.Core.List.{List}
+use mathlib.Core.Option.{Option}
+use mathlib.Core.Logic.{_⊎_, inl, inr, ⊎-elim}
+use mathlib.Core.Bool.{Bool, true, false, _&&_, cond}
+use lib.Dec.{eqb, ltb}
+use borrow.Author.Tests.{eq-eqb, ne-eqb}
+use Prim.Native.Nat.{ℕ, zero, suc, _+_, _-_, _*_, _^_, _≤_, _<_, min}
+use native.Mathlib.Omega.{arith}
+use native.Mathlib.Nat.{mul-le-mul-right}
+use lib.IntN.{ℤ, pos, _+ℤ_}
+use lib.ListN.{length, getD}
+use lib.Signed.{mag}
+use mir.Facts.{toZ-ofZ}
+use mir.Syntax.{w16}
+use mir.Val.{SFits, toZ, ofZ, hbits}
+use Rattle.plan.specs.declared.Plan.{Plan}
+use Rattle.plan.specs.declared.Label.{Label}
+use Rattle.model.specs.Model.{width, edgeAt, lossAt, inSet}
+use Rattle.model.specs.Labels.{labelOn, counts, countBefore}
+use Rattle.model.specs.Held.{fromCount}
+use Rattle.model.specs.Index.{noCost}
+use Rattle.model.specs.Held.{raise, penaltyMost, Table, Holding, minBelow, min-none, byEdge, leadsAt, leads-count, firstTable, nextTable}
+use Rattle.model.specs.Ends.{lossMost, tableAt, table-holding, room}
+use Rattle.labels.specs.Boundary.{leadsFrom, leads-at}
+use Rattle.quadratic.specs.Quad.{none, flat}
+use Rattle.quadratic.specs.Fine.{far, square-most}
+use Rattle.curve.specs.Pieces.{Kept, Made, Apart}
+use Rattle.curve.specs.Curve.{Curve, Limits, curve-as, curve-kept, curve-costs, curve-wider, curve-flat, near}
+use Rattle.edges.specs.Edge.{Hand, Spared, Sound, Off, WithLoss, loss-place}
+use Rattle.layer.specs.declared.Shape.{Shape}
+use Rattle.layer.specs.Layer.{stepMost, baseOf, listAt, Shape-small, ShapeOf, Layer}
+use Rattle.layer.specs.Step.{source, offered, offered-by, edgeOf, leastOffered, EdgesReady, TookEdges}
+use Rattle.layer.specs.Next.{Task, layerWords, Beside, NextReady, NextList, FirstReady, firstCost}
+
+-- a list lies within its layer
+pub list-within : (o S L k s : ℕ) → k < counts → s < S → (o ≤ listAt o S L k s) × (listAt o S L k s + 4 * L ≤ o + 8 * (S * L))
+unfolding listAt
+list-within o S L k s hk hs =
+    let c : k * S ≤ S = ⊎-elim (λ e. omega arith) (λ e. rw e (omega arith)) (small k hk) in
+    let h : suc (k * S + s) ≤ 2 * S = omega arith in
+    (omega arith, omega (arith, mul-le-mul-right (4 * L) h))
+  where
+    small : (k : ℕ) → k < 2 → (k * S ≡ 0) ⊎ (k ≡ 1)
+    small zero h = inl (omega arith)
+    small (suc k) h = inr (omega arith)
+
+-- the table of one reading more
+pub table-next : (P : Plan) (zs : List ℤ) (t k s j : ℕ) → 1 ≤ t → nextTable P zs t (tableAt P zs t) k s j ≡ tableAt P zs (suc t) k s j
+unfolding tableAt
+table-next P zs zero k s j h = absurd (omega arith)
+table-next P zs (suc t) k s j h = refl
+
+pub min-ext : (n : ℕ) (f g : ℕ → ℕ) → ((i : ℕ) → i < n → f i ≡ g i) → minBelow n f ≡ minBelow n g
+unfolding minBelow
+min-ext zero f g h = refl
+min-ext (suc n) f g h = rw (min-ext n f g (λ i k. h i (omega arith)), h n (omega arith)) refl
+
+-- the plan's shape, in a curve
+module _ {P : Plan} {g : Shape} (e : ShapeOf P g) {A B o : ℕ} {ws : List ℕ} {F : ℕ → ℕ} where
+  pub to-shape : Curve A B (baseOf P) (width P) ws o F → Curve A B (g .base) (g .levels) ws o F
+  to-shape c = rw (e .base, e .levels) c
+
+  pub of-shape : Curve A B (g .base) (g .levels) ws o F → Curve A B (baseOf P) (width P) ws o F
+  of-shape c = rw (← e .base, ← e .levels) c
+
+module _ {P : Plan} {zs : List ℤ} {g : Shape} (a : Task P zs g) where
+  pub some-levels : 0 < g .levels
+  unfolding width
+  some-levels = omega (arith, a .shape .levels)
+
+  pub shape-small : Shape-small g
+  shape-small = record { states = omega (arith, a .shape .states, a .checked .few-states); levels = omega (arith, a .shape .levels, a .checked .narrow) }
+
+  pub limits : (A B : ℕ) → A ≤ 1048576 → B ≤ 18014398509481984 → Limits A B (g .base) (g .levels)
+  limits A B h k = record { readings = h; cost = k; low = omega (arith, a .shape .base, a .low); high = omega (arith, a .shape .base, a .shape .levels, a .high) }
+
+  -- the layers that the model's laws speak of
+  pub holding : (t : ℕ) → 1 ≤ t → t ≤ 4096 → Holding P zs t (tableAt P zs t)
+  holding zero h k = absurd (omega arith)
+  holding (suc t) h k = table-holding P zs (a .checked) (a .losses) t (omega arith)
+
+  pub leads-low : (t e k s : ℕ) → 1 ≤ t → t ≤ 4096 → leadsAt P t e k s ≡ true → fromCount P t e k < counts
+  leads-low t e k s h m l = leads-count P zs (a .checked) lossMost (a .losses) t h (tableAt P zs t) (holding t h m) (room t m) e k s l
+
+  -- a list's place, by the shape
+  pub list-is : (o k s : ℕ) {d : ℕ} → d ≡ listAt o (g .states) (g .levels) k s → d ≡ listAt o (P .states) (width P) k s
+  list-is o k s e = e ∙ ap (λ (x : ℕ). listAt o x (g .levels) k s) (a .shape .states) ∙ ap (λ (x : ℕ). listAt o (P .states) x k s) (a .shape .levels)
+
+  -- the base is the place of the lowest level
+  pub base-place : pos (g .base) ≡ P .lo +ℤ pos 163840
+  base-place = rw (a .shape .base) (a .place)
+
+-- a reading is read back as itself
+pub reading-is : (z : ℤ) (u : ℕ) → mag z < 2 ^ hbits w16 → pos u ≡ toZ w16 (ofZ w16 z) +ℤ pos 163840 → pos u ≡ z +ℤ pos 163840
+reading-is z u h e = let f : SFits w16 z = record { sfits = h } in rw (toZ-ofZ f) at e
+
+module _ {P : Plan} {zs : List ℤ} {o : Option Label} {t cur dst free k s : ℕ} {g : Shape} {ws : List ℕ} (a : NextReady P zs o t cur dst free k s g ws) where
+  abbrev size : ℕ
+  size = 4 * g .levels
+
+  few : t ≤ 4096
+  few = omega (arith, a .more, a .task .most)
+
+  led : (e : ℕ) → leadsFrom o t (edgeOf (P .edges) e) k s ≡ true → leadsAt P t e k s ≡ true
+  led e l = sym (leads-at P t e k s) ∙ subst (λ (x : Option Label). leadsFrom x t (edgeAt P e) k s ≡ true) (a .on) l
+
+  before-low : (e : ℕ) → leadsFrom o t (edgeOf (P .edges) e) k s ≡ true → countBefore o t (edgeAt P e .kind) k < counts
+  unfolding fromCount
+  before-low e l = subst (λ (x : Option Label). countBefore x t (edgeAt P e .kind) k < counts) (sym (a .on)) (leads-low (a .task) t e k s (a .some) few (led e l))
+
+  -- the list that an edge comes from, and what it costs
+  source-list : (e : ℕ) → e < P .edgecount → leadsFrom o t (edgeOf (P .edges) e) k s ≡ true
+      → Curve t (t * stepMost) (g .base) (g .levels) ws (source o t (edgeOf (P .edges) e) k cur g) (tableAt P zs t (countBefore o t (edgeAt P e .kind) k) (edgeAt P e .from))
+  source-list e h l =
+      to-shape (a .task .shape)
+      (rw (a .task .shape .states, a .task .shape .levels) (a .layer .list (countBefore o t (edgeAt P e .kind) k) (edgeAt P e .from) (before-low e l) (a .task .checked .edge e h .from-below)))
+
+  source-below : (e : ℕ) → e < P .edgecount → leadsFrom o t (edgeOf (P .edges) e) k s ≡ true → source o t (edgeOf (P .edges) e) k cur g + size ≤ free
+  source-below e h l =
+      let w = list-within cur (P .states) (width P) (countBefore o t (edgeAt P e .kind) k) (edgeAt P e .from) (before-low e l) (a .task .checked .edge e h .from-below) in
+      rw (a .task .shape .states, a .task .shape .levels) (omega (arith, w, a .below))
+
+  most : t * stepMost ≤ 18014398509481984 - penaltyMost
+  most = omega (arith, mul-le-mul-right stepMost few)
+
+  module _ {w1 : List ℕ} (m1 : Made (λ (j : ℕ). flat none) ws w1 free (g .levels)) where
+    source-kept : (e : ℕ) → e < P .edgecount → leadsFrom o t (edgeOf (P .edges) e) k s ≡ true
+        → Curve t (t * stepMost) (g .base) (g .levels) w1 (source o t (edgeOf (P .edges) e) k cur g) (tableAt P zs t (countBefore o t (edgeAt P e .kind) k) (edgeAt P e .from))
+    source-kept e h l = let c = source-list e h l in curve-kept (m1 .kept) c (near free c (inl (source-below e h l)))
+
+    room-now : free + 3 * size ≤ length w1
+    room-now = omega (arith, m1 .kept .size, a .room, a .task .shape .levels)
+
+    acc-none : {A B : ℕ} → Curve A B (g .base) (g .levels) w1 free (λ (j : ℕ). none)
+    acc-none = curve-flat (inl refl) (omega (arith, a .room, a .task .shape .levels)) m1
+
+    pub edges-ready : EdgesReady o t (P .edges) (P .edgecount) k s cur g free (free + size) (free + 2 * size) w1
+    edges-ready = record {
+      small = shape-small (a .task);
+      boundary = omega (arith, few);
+      count = a .count;
+      place = omega (arith, a .below, a .place);
+      limits = limits (a .task) 1048576 18014398509481984 (omega arith) (omega arith);
+      few = a .task .checked .few-edges;
+      some = some-levels (a .task);
+      so-far = curve-costs acc-none;
+      from = λ e h. omega (arith, a .task .checked .edge e h .from-below, a .task .checked .few-states);
+      gap = λ e h. a .task .checked .edge e h .gap-low;
+      before = λ e h l. before-low e l;
+      hand = λ e h l. let b = source-below e h l in record {
+        into = record { f-next = inl (omega arith); f-work = inl (omega arith); next-work = inl (omega arith); room-next = omega (arith, room-now); room-work = omega (arith, room-now) };
+        acc-next = inl (omega arith);
+        acc-work = inl (omega arith);
+        f-acc = inl b;
+        room-acc = omega (arith, room-now);
+      };
+      sound = λ e h l. curve-costs (curve-wider 1048576 (18014398509481984 - penaltyMost) (omega (arith, few)) most (source-kept e h l));
+    }
+
+    module _ {w2 : List ℕ} {r : ℕ} (m2 : TookEdges o t (P .edges) (P .edgecount) k s cur g w1 w2 free (free + size) (free + 2 * size) r) where
+      -- the least over the edges
+      acc-least : Curve t (t * stepMost + penaltyMost) (g .base) (g .levels) w2 r (λ (j : ℕ). min none (leastOffered o t (P .edges) (P .edgecount) k s (g .levels) (tableAt P zs t) j))
+      acc-least =
+          m2 .curve t (t * stepMost + penaltyMost) (t * stepMost) (λ (j : ℕ). none) (tableAt P zs t) (limits (a .task) _ _ (omega (arith, few)) (omega (arith, most))) (omega arith) acc-none
+          (λ e h l. source-kept e h l)
+
+      dst-apart : Apart r dst (4 * g .levels)
+      dst-apart = inr (⊎-elim (λ e. omega (arith, a .under, a .task .shape .levels)) (λ e. omega (arith, a .under, a .task .shape .levels)) (m2 .place))
+
+      dst-room : dst + 4 * g .levels ≤ length w2
+      dst-room = omega (arith, a .under, a .task .shape .levels, a .room, m1 .kept .size, m2 .spared .size)
+
+      acc-sound : Sound 18014398509481984 (g .base) (g .levels) w2 r
+      acc-sound = curve-costs (curve-wider 1048576 18014398509481984 (omega (arith, few)) (omega (arith, most)) acc-least)
+
+      pub reading-ready : {u : ℕ} → (131072 ≤ u) × (u < 196608)
+          → ((Apart r dst (4 * g .levels) × (dst + 4 * g .levels ≤ length w2)) × ((((131072 ≤ u) × (u < 196608)) × ((1 < 256) × (g .base + g .levels ≤ 196608))) × (Limits 1048576 18014398509481984 (g .base) (g .levels) × Sound 18014398509481984 (g .base) (g .levels) w2 r)))
+      reading-ready h =
+          ((dst-apart, dst-room), ((h, (omega arith, omega (arith, a .task .shape .base, a .task .shape .levels, a .task .high))), (limits (a .task) 1048576 18014398509481984 (omega arith) (omega arith), acc-sound)))
+
+      module _ (u : ℕ) (at : pos u ≡ getD zs t (pos 0) +ℤ pos 163840) {w3 : List ℕ} (m3 : WithLoss 1 u (g .base) (g .levels) w2 w3 r dst) where
+        value-is : (j : ℕ) → raise (min none (leastOffered o t (P .edges) (P .edgecount) k s (g .levels) (tableAt P zs t) j)) (1 * (far u (g .base + j) * far u (g .base + j))) ≡ tableAt P zs (suc t) k s j
+        unfolding nextTable
+        value-is j =
+            let L = a .task .shape .levels in
+            let x : leastOffered o t (P .edges) (P .edgecount) k s (g .levels) (tableAt P zs t) j ≡ minBelow (P .edgecount) (byEdge P t (tableAt P zs t) k s j) =
+            min-ext (P .edgecount) _ _ (λ e h. rw (L, a .on) (offered-by P t (tableAt P zs t) k s j e)) in
+            let y : min none (leastOffered o t (P .edges) (P .edgecount) k s (g .levels) (tableAt P zs t) j) ≡ minBelow (P .edgecount) (byEdge P t (tableAt P zs t) k s j) =
+            omega (arith, x, min-none (P .edgecount) (byEdge P t (tableAt P zs t) k s j)) in
+            let z : 1 * (far u (g .base + j) * far u (g .base + j)) ≡ lossAt zs t (P .lo +ℤ pos j) = omega (arith, loss-place zs t (P .lo) u (g .base) at (base-place (a .task)) j) in
+            rw (y, z) (table-next P zs t k s j (a .some))
+
+        next-curve : Curve (suc t) (suc t * stepMost) (baseOf P) (width P) w3 dst (tableAt P zs (suc t) k s)
+        next-curve =
+            of-shape (a .task .shape)
+            (curve-wider (suc t) (suc t * stepMost) (omega arith) (omega arith)
+            (curve-as (tableAt P zs (suc t) k s) (λ j h. value-is j)
+            (m3 .curve t (t * stepMost + penaltyMost) _ (limits (a .task) _ _ (omega (arith, few)) (omega (arith, most))) acc-least)))
+
+        besides : Beside dst free (width P) ws w3
+        besides = record { size = m3 .kept .size ∙ m2 .spared .size ∙ m1 .kept .size; word = word }
+          where
+            off : (i d : ℕ) → free ≤ d → d + size ≤ free + 12 * width P → (i < free) ⊎ (free + 12 * width P ≤ i) → Off d (g .levels) i
+            off i d h l = ⊎-elim (λ p. inl (omega arith)) (λ p. inr (omega arith))
+
+            word : (i : ℕ) → Off dst (width P) i → (i < free) ⊎ (free + 12 * width P ≤ i) → getD w3 i 0 ≡ getD ws i 0
+            word i p q =
+                let L = a .task .shape .levels in
+                ⊎-elim (λ x. m3 .kept .before i x) (λ x. m3 .kept .after i (omega arith)) p
+                ∙ m2 .spared .word i (off i free (omega arith) (omega arith) q) (off i (free + size) (omega arith) (omega arith) q) (off i (free + 2 * size) (omega arith) (omega arith) q)
+                ∙ ⊎-elim (λ x. m1 .kept .before i x) (λ x. m1 .kept .after i (omega arith)) q
+
+        pub next-list : NextList P zs t dst free k s ws w3
+        next-list = record { beside = besides; list = next-curve }
+
+-- ---- the first layer
+
+module _ (P : Plan) (k s : ℕ) where
+  pub first-not : (k ≡ 0 → ⊥) → noCost ≡ firstCost P k s
+  unfolding firstCost
+  first-not h = rw (ne-eqb k 0 h) (go (inSet (P .start) s))
+    where
+      go : (b : Bool) → noCost ≡ cond (b && false) 0 noCost
+      go true = refl
+      go false = refl
+
+  pub first-in : inSet (P .start) s ≡ true → k ≡ 0 → 0 ≡ firstCost P k s
+  unfolding firstCost
+  first-in e h = rw (eq-eqb k 0 h, e) refl
+
+  pub first-out : inSet (P .start) s ≡ false → k ≡ 0 → noCost ≡ firstCost P k s
+  unfolding firstCost
+  first-out e h = rw (eq-eqb k 0 h, e) refl
+
+module _ {P : Plan} {zs : List ℤ} {dst free k s : ℕ} {g : Shape} {ws : List ℕ} (a : FirstReady P zs dst free k s g ws) (c : ℕ) (is : c ≡ firstCost P k s) {w1 : List ℕ} (m1 : Made (λ (j : ℕ). flat c) ws w1 free (g .levels)) where
+  acc-first : Curve 0 1 (g .base) (g .levels) w1 free (λ (j : ℕ). c)
+  unfolding firstCost
+  acc-first = curve-flat (go (inSet (P .start) s && eqb k 0) is) (omega (arith, a .room, a .task .shape .levels)) m1
+    where
+      go : (b : Bool) → c ≡ cond b 0 noCost → (c ≡ none) ⊎ (c < 1)
+      go true e = inr (omega arith)
+      go false e = inl e
+
+  pub first-ready : {u : ℕ} → (131072 ≤ u) × (u < 196608)
+      → ((Apart free dst (4 * g .levels) × (dst + 4 * g .levels ≤ length w1)) × ((((131072 ≤ u) × (u < 196608)) × ((1 < 256) × (g .base + g .levels ≤ 196608))) × (Limits 1048576 18014398509481984 (g .base) (g .levels) × Sound 18014398509481984 (g .base) (g .levels) w1 free)))
+  first-ready h = (
+    (inr (omega (arith, a .under, a .task .shape .levels)), omega (arith, a .under, a .room, a .task .shape .levels, m1 .kept .size)),
+    ((h, (omega arith, omega (arith, a .task .shape .base, a .task .shape .levels, a .task .high))), (limits (a .task) 1048576 18014398509481984 (omega arith) (omega arith), curve-costs (curve-wider 1048576 18014398509481984 (omega arith) (omega arith) acc-first))),
+  )
+
+  module _ (u : ℕ) (at : pos u ≡ getD zs 0 (pos 0) +ℤ pos 163840) {w2 : List ℕ} (m2 : WithLoss 1 u (g .base) (g .levels) w1 w2 free dst) where
+    value-first : (j : ℕ) → raise c (1 * (far u (g .base + j) * far u (g .base + j))) ≡ tableAt P zs 1 k s j
+    unfolding tableAt firstTable firstCost raise
+    value-first j =
+        let z : 1 * (far u (g .base + j) * far u (g .base + j)) ≡ lossAt zs 0 (P .lo +ℤ pos j) = omega (arith, loss-place zs 0 (P .lo) u (g .base) at (base-place (a .task)) j) in
+        rw (is, z) (go (inSet (P .start) s && eqb k 0))
+      where
+        go : (b : Bool) → cond (ltb (cond b 0 noCost) noCost) (cond b 0 noCost + lossAt zs 0 (P .lo +ℤ pos j)) (cond b 0 noCost) ≡ cond b (lossAt zs 0 (P .lo +ℤ pos j)) noCost
+        go true = omega arith
+        go false = refl
+
+    pub first-made : NextList P zs 0 dst free k s ws w2
+    first-made = record {
+      beside = record {
+        size = m2 .kept .size ∙ m1 .kept .size;
+        word = λ i p q.
+            let L = a .task .shape .levels in
+            ⊎-elim (λ x. m2 .kept .before i x) (λ x. m2 .kept .after i (omega arith)) p
+            ∙ ⊎-elim (λ x. m1 .kept .before i x) (λ x. m1 .kept .after i (omega arith)) q;
+      };
+      list =
+          of-shape (a .task .shape)
+          (curve-wider 1 (1 * stepMost) (omega arith) (omega arith) (curve-as (tableAt P zs 1 k s) (λ j h. value-first j) (m2 .curve 0 1 _ (limits (a .task) _ _ (omega arith) (omega arith)) acc-first)));
+    }

@@ -1,0 +1,116 @@
+-- The next layer, list by list. Assumes nothing.
+use mathlib.Core.Path.{_≡_}
+use mathlib.Core.Logic.{_⊎_}
+use mathlib.Core.List.{List}
+use mathlib.Core.Option.{Option}
+use mathlib.Core.Bool.{true, _&&_, cond}
+use lib.Dec.{eqb}
+use Prim.Native.Nat.{ℕ, suc, _+_, _*_, _≤_, _<_}
+use lib.IntN.{ℤ, pos, _+ℤ_}
+use lib.ListN.{length, getD}
+use Rattle.plan.specs.declared.Plan.{Plan}
+use Rattle.plan.specs.declared.Label.{Label}
+use Rattle.model.specs.Model.{width, onGrid, lossAt, inSet}
+use Rattle.model.specs.Labels.{labelOn, counts}
+use Rattle.model.specs.Checked.{Checked}
+use Rattle.model.specs.Index.{noCost}
+use Rattle.model.specs.Ends.{lossMost, tableAt}
+use Rattle.model.specs.Tables.{Ready}
+use Rattle.curve.specs.Curve.{Curve}
+use Rattle.edges.specs.Edge.{Off}
+use Rattle.layer.specs.declared.Shape.{Shape}
+use Rattle.layer.specs.Layer.{stepMost, baseOf, listAt, ShapeOf, Layer}
+
+-- a plan and a record that no number before 14 refuses, and their shape
+pub record Task (P : Plan) (zs : List ℤ) (g : Shape) : Type 0 where
+  pub checked : Checked P
+  pub ready : Ready P zs
+  pub shape : ShapeOf P g
+  pub most : length zs ≤ 4096
+  pub place : pos (baseOf P) ≡ P .lo +ℤ pos 163840
+  pub low : 131072 ≤ baseOf P
+  pub high : baseOf P + width P ≤ 196608
+  pub losses : (t : ℕ) (m : ℤ) → onGrid P m ≡ true → lossAt zs t m ≤ lossMost
+
+-- the words of a layer
+abbrev pub layerWords : Plan → ℕ
+layerWords P = 8 * (P .states * width P)
+
+-- every word outside the list at dst and the three temporary lists at free is as before
+pub record Beside (dst free L : ℕ) (ws ws′ : List ℕ) : Type 0 where
+  pub size : length ws′ ≡ length ws
+  pub word : (i : ℕ) → Off dst L i → (i < free) ⊎ (free + 12 * L ≤ i) → getD ws′ i 0 ≡ getD ws i 0
+
+pub record NextReady (P : Plan) (zs : List ℤ) (o : Option Label) (t cur dst free k s : ℕ) (g : Shape) (ws : List ℕ) : Type 0 where
+  pub task : Task P zs g
+  pub on : o ≡ labelOn P t
+  pub some : 1 ≤ t
+  pub more : t < length zs
+  pub layer : Layer P zs t ws cur
+  pub count : k < counts
+  pub state : s < P .states
+  pub apart : (cur + layerWords P ≤ dst) ⊎ (dst + 4 * width P ≤ cur)
+  pub below : cur + layerWords P ≤ free
+  pub under : dst + 4 * width P ≤ free
+  pub room : free + 12 * width P ≤ length ws
+  pub place : free ≤ 1048576
+
+pub record NextList (P : Plan) (zs : List ℤ) (t dst free k s : ℕ) (ws ws′ : List ℕ) : Type 0 where
+  pub beside : Beside dst free (width P) ws ws′
+  pub list : Curve (suc t) (suc t * stepMost) (baseOf P) (width P) ws′ dst (tableAt P zs (suc t) k s)
+
+-- what the first reading's loss is added to
+unfoldable pub firstCost : Plan → ℕ → ℕ → ℕ
+firstCost P k s = cond (inSet (P .start) s && eqb k 0) 0 noCost
+
+-- what is asked before list (k, s) of the first layer is made at dst
+pub record FirstReady (P : Plan) (zs : List ℤ) (dst free k s : ℕ) (g : Shape) (ws : List ℕ) : Type 0 where
+  pub task : Task P zs g
+  pub more : 0 < length zs
+  pub state : s < P .states
+  pub under : dst + 4 * width P ≤ free
+  pub room : free + 12 * width P ≤ length ws
+
+-- ---- many lists
+
+-- the lists with Q of the layer at o are those after t readings, and nothing else but the temporary lists is changed
+pub record Lists (Q : ℕ → ℕ → Type 0) (P : Plan) (zs : List ℤ) (t o free : ℕ) (ws ws′ : List ℕ) : Type 0 where
+  pub size : length ws′ ≡ length ws
+  pub word : (i : ℕ) → ((k s : ℕ) → Q k s → Off (listAt o (P .states) (width P) k s) (width P) i) → (i < free) ⊎ (free + 12 * width P ≤ i) → getD ws′ i 0 ≡ getD ws i 0
+  pub list : (k s : ℕ) → Q k s → Curve t (t * stepMost) (baseOf P) (width P) ws′ (listAt o (P .states) (width P) k s) (tableAt P zs t k s)
+
+-- one list, the first n of a count, the first n counts
+abbrev pub One : ℕ → ℕ → ℕ → ℕ → Type 0
+One k s k′ s′ = (k′ ≡ k) × (s′ ≡ s)
+
+abbrev pub OfCount : ℕ → ℕ → ℕ → ℕ → Type 0
+OfCount k n k′ s′ = (k′ ≡ k) × (s′ < n)
+
+abbrev pub Counts : Plan → ℕ → ℕ → ℕ → Type 0
+Counts P n k s = (k < n) × (s < P .states)
+
+-- what is asked before a step from the layer after t readings at cur to the next one at next
+pub record StepReady (P : Plan) (zs : List ℤ) (t cur next free : ℕ) (g : Shape) (ws : List ℕ) : Type 0 where
+  pub task : Task P zs g
+  pub some : 1 ≤ t
+  pub more : t < length zs
+  pub layer : Layer P zs t ws cur
+  pub apart : (cur + layerWords P ≤ next) ⊎ (next + layerWords P ≤ cur)
+  pub below : cur + layerWords P ≤ free
+  pub under : next + layerWords P ≤ free
+  pub room : free + 12 * width P ≤ length ws
+  pub place : free ≤ 1048576
+
+-- the layer after t readings stands at o, and no word outside it and the temporary lists is changed
+pub record Stepped (P : Plan) (zs : List ℤ) (t o free : ℕ) (ws ws′ : List ℕ) : Type 0 where
+  pub size : length ws′ ≡ length ws
+  pub word : (i : ℕ) → (i < o) ⊎ (o + layerWords P ≤ i) → (i < free) ⊎ (free + 12 * width P ≤ i) → getD ws′ i 0 ≡ getD ws i 0
+  pub layer : Layer P zs t ws′ o
+
+-- what is asked before the first layer is made at o
+pub record StartReady (P : Plan) (zs : List ℤ) (o free : ℕ) (g : Shape) (ws : List ℕ) : Type 0 where
+  pub task : Task P zs g
+  pub more : 0 < length zs
+  pub under : o + layerWords P ≤ free
+  pub room : free + 12 * width P ≤ length ws
+  pub place : free ≤ 1048576

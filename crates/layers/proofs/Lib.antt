@@ -1,4 +1,0 @@
-pub mod Took
-pub mod Edges
-pub mod Next
-pub mod Lists

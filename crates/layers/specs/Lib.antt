@@ -1,3 +1,0 @@
-pub mod Layer
-pub mod Step
-pub mod Next
