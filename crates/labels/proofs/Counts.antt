@@ -16,7 +16,8 @@ use Rattle.plan.specs.declared.Kind.{Kind}
 use Rattle.plan.specs.declared.Kind.the-variants.{Stay, Any, Up, Down, Abs}
 use Rattle.plan.specs.Build.{noLabel}
 use Rattle.model.specs.Model.{labelAt, changeOf, within, markOf, need}
-use Rattle.model.specs.Labels.{covering, labelOn, countAfter, countBefore, labelTest}
+use Rattle.model.specs.Checked.{Checked}
+use Rattle.model.specs.Labels.{covering, labelOn, used, usedAt, used-most, counts, countAfter, countBefore, labelTest}
 use Rattle.labels.specs.declared.Cover.{Cover}
 use Rattle.labels.specs.declared.Cover.the-variants.{Free, By}
 use Rattle.labels.specs.Boundary.{labelOf, leadsFrom}
@@ -55,6 +56,17 @@ module _ (ls : List Label) (t i : ℕ) where
   cover-not h b e p = ap (λ n. coveringIn ls n t) (omega arith) ∙ step ∙ rw (← e, p) refl
 
 -- ---- counts
+
+pub used-free : (on : Cover) → on ≡ Free → 1 ≡ used (labelOf on)
+unfolding used
+used-free on e = rw e refl
+
+pub used-by : (on : Cover) (l : Label) → on ≡ By l → l .c + 1 ≡ used (labelOf on)
+unfolding used need
+used-by on l e = rw e (add-one (l .c))
+
+pub used-here : (P : Plan) (t : ℕ) (o : Option Label) (n : ℕ) → Checked P → o ≡ labelOn P t → n ≡ used o → (n ≡ usedAt P t) × (n ≤ counts)
+used-here P t o n ch e h = let q : n ≡ usedAt P t = h ∙ ap used e in (q, omega (arith, q, used-most P ch t))
 
 pub change-most : (x : Kind) → changeOf x ≤ 1
 unfolding changeOf

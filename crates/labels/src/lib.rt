@@ -7,7 +7,8 @@ ghost use mathlib.Core.Path.{_≡_};
 ghost use Prim.Native.Nat.{suc, _-_, _+_, _≤_, _<_};
 ghost use lib.Dec.{eqb};
 ghost use Rattle.model.specs.Model.{changeOf, within};
-ghost use Rattle.model.specs.Labels.{labelOn, countAfter, countBefore, labelTest};
+ghost use Rattle.model.specs.Checked.{Checked};
+ghost use Rattle.model.specs.Labels.{labelOn, used, usedAt, counts, countAfter, countBefore, labelTest};
 ghost use Rattle.coded.specs.Coded.{Coded};
 ghost use Rattle.labels.specs.Boundary.{labelOf, leadsFrom};
 
@@ -17,7 +18,7 @@ pub enum Cover {
     By(Label),
 }
 
-// How many counts of changes are kept apart inside an open label: 0 and 1.
+// The most counts of changes that are kept apart inside an open label: 0 and 1.
 pub const COUNTS: usize = 2;
 
 // 1 for a change, 0 for a stay.
@@ -58,6 +59,24 @@ pub fn label_on(plan: Plan, code: &[u64], t: usize) -> Cover
         }
     }
     Cover::Free
+}
+
+// How many counts are kept apart where this label has the next boundary.
+fn used(on: Cover) -> usize
+    ensures { λ r. ⌜ r ≡ used (labelOf on) ⌝ }
+{
+    match on {
+        Cover::Free => 1,
+        Cover::By(l) => (l.c as usize) + 1,
+    }
+}
+
+// How many counts are kept apart after t readings.
+pub fn counts_at(plan: Plan, code: &[u64], t: usize) -> usize
+    requires { ⌜ Checked plan × Coded plan (now code) ⌝ }
+    ensures { λ r. ⌜ (r ≡ usedAt plan t) × (r ≤ counts) ⌝ }
+{
+    used(label_on(plan, code, t))
 }
 
 // a less b, 0 where b is more.

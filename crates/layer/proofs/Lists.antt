@@ -6,22 +6,23 @@ use mathlib.Core.Logic.{_⊎_, inl, inr, ⊎-elim}
 use Prim.Native.Nat.{ℕ, zero, suc, _+_, _-_, _*_, _≤_, _<_}
 use native.Mathlib.Omega.{arith}
 use native.Mathlib.Nat.{mul-le-mul-right}
+use native.Mathlib.Numerals.{add-one}
 use lib.IntN.{ℤ}
 use lib.ListN.{length, getD}
 use Rattle.integers.specs.Rep.{le-or-lt}
 use Rattle.plan.specs.declared.Plan.{Plan}
 use Rattle.plan.specs.declared.Label.{Label}
 use Rattle.model.specs.Model.{width}
-use Rattle.model.specs.Labels.{labelOn, counts}
+use Rattle.model.specs.Labels.{labelOn, counts, usedAt}
 use Rattle.model.specs.Ends.{tableAt}
 use Rattle.curve.specs.Pieces.{Apart}
 use Rattle.curve.specs.Lists.{count-most}
 use Rattle.curve.specs.Curve.{Curve, curve-same}
 use Rattle.edges.specs.Edge.{Off}
 use Rattle.layer.specs.declared.Shape.{Shape}
-use Rattle.layer.specs.Layer.{stepMost, baseOf, listAt, ShapeOf, Layer}
-use Rattle.layer.specs.Next.{Task, layerWords, Beside, NextReady, NextList, Lists, One, OfCount, Counts, StepReady, Stepped, FirstReady, StartReady}
-use Rattle.layer.proofs.Next.{list-within}
+use Rattle.layer.specs.Layer.{stepMost, baseOf, listAt, layerWords, ShapeOf, Layer}
+use Rattle.layer.specs.Next.{Task, Beside, NextReady, NextList, Lists, One, OfCount, Counts, StepReady, Stepped, FirstReady, StartReady}
+use Rattle.layer.proofs.Next.{list-within, used-low}
 
 -- ---- places
 
@@ -82,7 +83,7 @@ module _ {P : Plan} {zs : List ℤ} {t cur next free : ℕ} {g : Shape} {ws : Li
   pub layer-kept : {Q : ℕ → ℕ → Type 0} {t′ : ℕ} {ws′ : List ℕ} → ((k s : ℕ) → Q k s → (k < counts) × (s < P .states)) → Lists Q P zs t′ next free ws ws′ → Layer P zs t ws′ cur
   layer-kept {Q} {t′} {ws′} hq m = record {
     list = λ k s hk hs.
-        let b = list-within cur (P .states) (width P) k s hk hs in
+        let b = list-within cur (P .states) (width P) k s (used-low (a .task) t hk) hs in
         kept-list (m .size) (λ i h h′. m .word i (λ k′ s′ q. elsewhere k′ s′ (hq k′ s′ q) i (omega arith) (omega arith)) (inl (omega (arith, a .below)))) (a .layer .list k s hk hs);
   }
     where
@@ -136,8 +137,11 @@ module _ {P : Plan} {zs : List ℤ} (t o free : ℕ) (under : o + layerWords P �
       lists-as P zs (suc t) o free (Counts P (n + 1)) (λ k′ s′. ⊎-elim (λ q. (omega (arith, q .0), q .1)) (λ q. (omega (arith, q .0), q .1))) (λ k′ s′ q. ⊎-elim (λ p. inr (omega (arith, q .0), q .1)) (λ p. inl (p, q .1)) (le-or-lt n k′))
       (both-lists P zs (suc t) o free under (λ k′ s′ q. (omega (arith, q .0), q .1)) (λ k′ s′ q. q .1) (λ k′ s′ p q. omega (arith, p .0, q .0)) m w)
 
-pub stepped : {P : Plan} {zs : List ℤ} {t o free n : ℕ} {ws ws′ : List ℕ} → n ≡ counts → Lists (Counts P n) P zs t o free ws ws′ → Stepped P zs t o free ws ws′
-stepped {P} {zs} {t} {o} {free} {n} {ws} {ws′} e m = record {
+pub next-used : (P : Plan) {k n : ℕ} (t : ℕ) → k ≡ n → n ≡ usedAt P (t + 1) → k ≡ usedAt P (suc t)
+next-used P t e h = e ∙ h ∙ ap (usedAt P) (add-one t)
+
+pub stepped : {P : Plan} {zs : List ℤ} {t o free n : ℕ} {ws ws′ : List ℕ} → n ≡ usedAt P t → n ≤ counts → Lists (Counts P n) P zs t o free ws ws′ → Stepped P zs t o free ws ws′
+stepped {P} {zs} {t} {o} {free} {n} {ws} {ws′} e few m = record {
   size = m .size;
   word = λ i f. m .word i (λ k s q. let b = list-within o (P .states) (width P) k s (omega (arith, q .0)) (q .1) in ⊎-elim (λ h. inl (omega arith)) (λ h. inr (omega arith)) f);
   layer = record { list = λ k s hk hs. m .list k s (omega arith, hs) };

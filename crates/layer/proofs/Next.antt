@@ -4,25 +4,27 @@ use mathlib.Core.List.{List}
 use mathlib.Core.Option.{Option}
 use mathlib.Core.Logic.{_⊎_, inl, inr, ⊎-elim}
 use mathlib.Core.Bool.{Bool, true, false, _&&_, cond}
-use lib.Dec.{eqb, ltb}
+use lib.Dec.{eqb, ltb, T}
 use borrow.Author.Tests.{eq-eqb, ne-eqb}
 use Prim.Native.Nat.{ℕ, zero, suc, _+_, _-_, _*_, _^_, _≤_, _<_, min}
 use native.Mathlib.Omega.{arith}
 use native.Mathlib.Nat.{mul-le-mul-right}
 use lib.IntN.{ℤ, pos, _+ℤ_}
 use lib.ListN.{length, getD}
-use lib.Signed.{mag}
+use lib.Signed.{mag, nonNeg, yes-nonNeg, pos-natAbs}
 use mir.Facts.{toZ-ofZ}
 use mir.Syntax.{w16}
 use mir.Val.{SFits, toZ, ofZ, hbits}
 use Rattle.plan.specs.declared.Plan.{Plan}
 use Rattle.plan.specs.declared.Label.{Label}
-use Rattle.model.specs.Model.{width, edgeAt, lossAt, inSet}
-use Rattle.model.specs.Labels.{labelOn, counts, countBefore}
-use Rattle.model.specs.Held.{fromCount}
+use Rattle.integers.specs.Rep.{iz, nz, _⊕_, eqN, leZof, sfitsN}
+use Rattle.model.specs.Model.{width, above, edgeAt, onGrid, lossAt, inSet}
+use Rattle.model.specs.Grid.{above-add}
+use Rattle.model.specs.Labels.{labelOn, counts, usedAt, used-most, countBefore}
+use Rattle.model.specs.Held.{fromCount, leads-used}
 use Rattle.model.specs.Index.{noCost}
-use Rattle.model.specs.Held.{raise, penaltyMost, Table, Holding, minBelow, min-none, byEdge, leadsAt, leads-count, firstTable, nextTable}
-use Rattle.model.specs.Ends.{lossMost, tableAt, table-holding, room}
+use Rattle.model.specs.Held.{raise, penaltyMost, Table, minBelow, min-none, byEdge, leadsAt, firstTable, nextTable}
+use Rattle.model.specs.Ends.{lossMost, losses-low, tableAt}
 use Rattle.labels.specs.Boundary.{leadsFrom, leads-at}
 use Rattle.quadratic.specs.Quad.{none, flat}
 use Rattle.quadratic.specs.Fine.{far, square-most}
@@ -30,21 +32,17 @@ use Rattle.curve.specs.Pieces.{Kept, Made, Apart}
 use Rattle.curve.specs.Curve.{Curve, Limits, curve-as, curve-kept, curve-costs, curve-wider, curve-flat, near}
 use Rattle.edges.specs.Edge.{Hand, Spared, Sound, Off, WithLoss, loss-place}
 use Rattle.layer.specs.declared.Shape.{Shape}
-use Rattle.layer.specs.Layer.{stepMost, baseOf, listAt, Shape-small, ShapeOf, Layer}
+use Rattle.layer.specs.Layer.{stepMost, baseOf, listAt, layerWords, Shape-small, ShapeOf, Layer}
 use Rattle.layer.specs.Step.{source, offered, offered-by, edgeOf, leastOffered, EdgesReady, TookEdges}
-use Rattle.layer.specs.Next.{Task, layerWords, Beside, NextReady, NextList, FirstReady, firstCost}
+use Rattle.layer.specs.Next.{Task, Beside, NextReady, NextList, FirstReady, firstCost}
 
 -- a list lies within its layer
-pub list-within : (o S L k s : ℕ) → k < counts → s < S → (o ≤ listAt o S L k s) × (listAt o S L k s + 4 * L ≤ o + 8 * (S * L))
+pub list-within : (o S L k s : ℕ) → k < counts → s < S → (o ≤ listAt o S L k s) × (listAt o S L k s + 4 * L ≤ o + 4 * counts * (S * L))
 unfolding listAt
 list-within o S L k s hk hs =
-    let c : k * S ≤ S = ⊎-elim (λ e. omega arith) (λ e. rw e (omega arith)) (small k hk) in
-    let h : suc (k * S + s) ≤ 2 * S = omega arith in
+    let c : suc k * S ≤ counts * S = mul-le-mul-right S hk in
+    let h : suc (k * S + s) ≤ counts * S = omega arith in
     (omega arith, omega (arith, mul-le-mul-right (4 * L) h))
-  where
-    small : (k : ℕ) → k < 2 → (k * S ≡ 0) ⊎ (k ≡ 1)
-    small zero h = inl (omega arith)
-    small (suc k) h = inr (omega arith)
 
 -- the table of one reading more
 pub table-next : (P : Plan) (zs : List ℤ) (t k s j : ℕ) → 1 ≤ t → nextTable P zs t (tableAt P zs t) k s j ≡ tableAt P zs (suc t) k s j
@@ -66,23 +64,46 @@ module _ {P : Plan} {g : Shape} (e : ShapeOf P g) {A B o : ℕ} {ws : List ℕ} 
   of-shape c = rw (← e .base, ← e .levels) c
 
 module _ {P : Plan} {zs : List ℤ} {g : Shape} (a : Task P zs g) where
+  abbrev lo-fits : SFits w16 (P .lo)
+  lo-fits = record { sfits = a .ready .lo-16 }
+
+  abbrev hi-fits : SFits w16 (P .hi)
+  hi-fits = record { sfits = a .ready .hi-16 }
+
+  -- the place of the lowest level, and those of all levels
+  pub lowest-place : pos (baseOf P) ≡ P .lo +ℤ pos 163840
+  unfolding baseOf
+  lowest-place =
+      let b = sfitsN w16 (iz (P .lo)) lo-fits in
+      let known : T (nonNeg (P .lo +ℤ pos 163840)) = yes-nonNeg (leZof (nz 0) (iz (P .lo) ⊕ nz 163840) (omega arith)) in
+      pos-natAbs (P .lo +ℤ pos 163840) known
+
+  pub places-from : 131072 ≤ baseOf P
+  places-from = let b = sfitsN w16 (iz (P .lo)) lo-fits in omega (arith, eqN (nz (baseOf P)) (iz (P .lo) ⊕ nz 163840) lowest-place)
+
+  pub places-to : baseOf P + width P ≤ 196608
+  unfolding width
+  places-to =
+      let b = sfitsN w16 (iz (P .hi)) hi-fits in
+      omega (arith, eqN (nz (baseOf P)) (iz (P .lo) ⊕ nz 163840) lowest-place, eqN (iz (P .lo) ⊕ nz (above (P .lo) (P .hi))) (iz (P .hi)) (above-add (P .lo) (P .hi) (a .ready .plan .grid)))
+
+  -- no reading costs more on the grid
+  pub losses : (t : ℕ) (m : ℤ) → onGrid P m ≡ true → lossAt zs t m ≤ lossMost
+  losses = losses-low P zs (a .ready .lo-16) (a .ready .hi-16) (a .ready .readings-16)
+
   pub some-levels : 0 < g .levels
   unfolding width
   some-levels = omega (arith, a .shape .levels)
 
   pub shape-small : Shape-small g
-  shape-small = record { states = omega (arith, a .shape .states, a .checked .few-states); levels = omega (arith, a .shape .levels, a .checked .narrow) }
+  shape-small = record { states = omega (arith, a .shape .states, a .ready .plan .few-states); levels = omega (arith, a .shape .levels, a .ready .plan .narrow) }
 
   pub limits : (A B : ℕ) → A ≤ 1048576 → B ≤ 18014398509481984 → Limits A B (g .base) (g .levels)
-  limits A B h k = record { readings = h; cost = k; low = omega (arith, a .shape .base, a .low); high = omega (arith, a .shape .base, a .shape .levels, a .high) }
+  limits A B h k = record { readings = h; cost = k; low = omega (arith, a .shape .base, places-from); high = omega (arith, a .shape .base, a .shape .levels, places-to) }
 
-  -- the layers that the model's laws speak of
-  pub holding : (t : ℕ) → 1 ≤ t → t ≤ 4096 → Holding P zs t (tableAt P zs t)
-  holding zero h k = absurd (omega arith)
-  holding (suc t) h k = table-holding P zs (a .checked) (a .losses) t (omega arith)
-
-  pub leads-low : (t e k s : ℕ) → 1 ≤ t → t ≤ 4096 → leadsAt P t e k s ≡ true → fromCount P t e k < counts
-  leads-low t e k s h m l = leads-count P zs (a .checked) lossMost (a .losses) t h (tableAt P zs t) (holding t h m) (room t m) e k s l
+  -- a count that is used
+  pub used-low : (t : ℕ) {k : ℕ} → k < usedAt P t → k < counts
+  used-low t h = omega (arith, used-most P (a .ready .plan) t)
 
   -- a list's place, by the shape
   pub list-is : (o k s : ℕ) {d : ℕ} → d ≡ listAt o (g .states) (g .levels) k s → d ≡ listAt o (P .states) (width P) k s
@@ -90,7 +111,7 @@ module _ {P : Plan} {zs : List ℤ} {g : Shape} (a : Task P zs g) where
 
   -- the base is the place of the lowest level
   pub base-place : pos (g .base) ≡ P .lo +ℤ pos 163840
-  base-place = rw (a .shape .base) (a .place)
+  base-place = rw (a .shape .base) lowest-place
 
 -- a reading is read back as itself
 pub reading-is : (z : ℤ) (u : ℕ) → mag z < 2 ^ hbits w16 → pos u ≡ toZ w16 (ofZ w16 z) +ℤ pos 163840 → pos u ≡ z +ℤ pos 163840
@@ -101,25 +122,28 @@ module _ {P : Plan} {zs : List ℤ} {o : Option Label} {t cur dst free k s : ℕ
   size = 4 * g .levels
 
   few : t ≤ 4096
-  few = omega (arith, a .more, a .task .most)
+  few = omega (arith, a .more, a .task .ready .few-readings)
 
   led : (e : ℕ) → leadsFrom o t (edgeOf (P .edges) e) k s ≡ true → leadsAt P t e k s ≡ true
   led e l = sym (leads-at P t e k s) ∙ subst (λ (x : Option Label). leadsFrom x t (edgeAt P e) k s ≡ true) (a .on) l
 
-  before-low : (e : ℕ) → leadsFrom o t (edgeOf (P .edges) e) k s ≡ true → countBefore o t (edgeAt P e .kind) k < counts
+  before-used : (e : ℕ) → leadsFrom o t (edgeOf (P .edges) e) k s ≡ true → countBefore o t (edgeAt P e .kind) k < usedAt P t
   unfolding fromCount
-  before-low e l = subst (λ (x : Option Label). countBefore x t (edgeAt P e .kind) k < counts) (sym (a .on)) (leads-low (a .task) t e k s (a .some) few (led e l))
+  before-used e l = subst (λ (x : Option Label). countBefore x t (edgeAt P e .kind) k < usedAt P t) (sym (a .on)) (leads-used P t e k s (led e l))
+
+  before-low : (e : ℕ) → leadsFrom o t (edgeOf (P .edges) e) k s ≡ true → countBefore o t (edgeAt P e .kind) k < counts
+  before-low e l = used-low (a .task) t (before-used e l)
 
   -- the list that an edge comes from, and what it costs
   source-list : (e : ℕ) → e < P .edgecount → leadsFrom o t (edgeOf (P .edges) e) k s ≡ true
       → Curve t (t * stepMost) (g .base) (g .levels) ws (source o t (edgeOf (P .edges) e) k cur g) (tableAt P zs t (countBefore o t (edgeAt P e .kind) k) (edgeAt P e .from))
   source-list e h l =
       to-shape (a .task .shape)
-      (rw (a .task .shape .states, a .task .shape .levels) (a .layer .list (countBefore o t (edgeAt P e .kind) k) (edgeAt P e .from) (before-low e l) (a .task .checked .edge e h .from-below)))
+      (rw (a .task .shape .states, a .task .shape .levels) (a .layer .list (countBefore o t (edgeAt P e .kind) k) (edgeAt P e .from) (before-used e l) (a .task .ready .plan .edge e h .from-below)))
 
   source-below : (e : ℕ) → e < P .edgecount → leadsFrom o t (edgeOf (P .edges) e) k s ≡ true → source o t (edgeOf (P .edges) e) k cur g + size ≤ free
   source-below e h l =
-      let w = list-within cur (P .states) (width P) (countBefore o t (edgeAt P e .kind) k) (edgeAt P e .from) (before-low e l) (a .task .checked .edge e h .from-below) in
+      let w = list-within cur (P .states) (width P) (countBefore o t (edgeAt P e .kind) k) (edgeAt P e .from) (before-low e l) (a .task .ready .plan .edge e h .from-below) in
       rw (a .task .shape .states, a .task .shape .levels) (omega (arith, w, a .below))
 
   most : t * stepMost ≤ 18014398509481984 - penaltyMost
@@ -143,11 +167,11 @@ module _ {P : Plan} {zs : List ℤ} {o : Option Label} {t cur dst free k s : ℕ
       count = a .count;
       place = omega (arith, a .below, a .place);
       limits = limits (a .task) 1048576 18014398509481984 (omega arith) (omega arith);
-      few = a .task .checked .few-edges;
+      few = a .task .ready .plan .few-edges;
       some = some-levels (a .task);
       so-far = curve-costs acc-none;
-      from = λ e h. omega (arith, a .task .checked .edge e h .from-below, a .task .checked .few-states);
-      gap = λ e h. a .task .checked .edge e h .gap-low;
+      from = λ e h. omega (arith, a .task .ready .plan .edge e h .from-below, a .task .ready .plan .few-states);
+      gap = λ e h. a .task .ready .plan .edge e h .gap-low;
       before = λ e h l. before-low e l;
       hand = λ e h l. let b = source-below e h l in record {
         into = record { f-next = inl (omega arith); f-work = inl (omega arith); next-work = inl (omega arith); room-next = omega (arith, room-now); room-work = omega (arith, room-now) };
@@ -178,7 +202,7 @@ module _ {P : Plan} {zs : List ℤ} {o : Option Label} {t cur dst free k s : ℕ
       pub reading-ready : {u : ℕ} → (131072 ≤ u) × (u < 196608)
           → ((Apart r dst (4 * g .levels) × (dst + 4 * g .levels ≤ length w2)) × ((((131072 ≤ u) × (u < 196608)) × ((1 < 256) × (g .base + g .levels ≤ 196608))) × (Limits 1048576 18014398509481984 (g .base) (g .levels) × Sound 18014398509481984 (g .base) (g .levels) w2 r)))
       reading-ready h =
-          ((dst-apart, dst-room), ((h, (omega arith, omega (arith, a .task .shape .base, a .task .shape .levels, a .task .high))), (limits (a .task) 1048576 18014398509481984 (omega arith) (omega arith), acc-sound)))
+          ((dst-apart, dst-room), ((h, (omega arith, omega (arith, a .task .shape .base, a .task .shape .levels, places-to (a .task)))), (limits (a .task) 1048576 18014398509481984 (omega arith) (omega arith), acc-sound)))
 
       module _ (u : ℕ) (at : pos u ≡ getD zs t (pos 0) +ℤ pos 163840) {w3 : List ℕ} (m3 : WithLoss 1 u (g .base) (g .levels) w2 w3 r dst) where
         value-is : (j : ℕ) → raise (min none (leastOffered o t (P .edges) (P .edgecount) k s (g .levels) (tableAt P zs t) j)) (1 * (far u (g .base + j) * far u (g .base + j))) ≡ tableAt P zs (suc t) k s j
@@ -247,7 +271,7 @@ module _ {P : Plan} {zs : List ℤ} {dst free k s : ℕ} {g : Shape} {ws : List 
       → ((Apart free dst (4 * g .levels) × (dst + 4 * g .levels ≤ length w1)) × ((((131072 ≤ u) × (u < 196608)) × ((1 < 256) × (g .base + g .levels ≤ 196608))) × (Limits 1048576 18014398509481984 (g .base) (g .levels) × Sound 18014398509481984 (g .base) (g .levels) w1 free)))
   first-ready h = (
     (inr (omega (arith, a .under, a .task .shape .levels)), omega (arith, a .under, a .room, a .task .shape .levels, m1 .kept .size)),
-    ((h, (omega arith, omega (arith, a .task .shape .base, a .task .shape .levels, a .task .high))), (limits (a .task) 1048576 18014398509481984 (omega arith) (omega arith), curve-costs (curve-wider 1048576 18014398509481984 (omega arith) (omega arith) acc-first))),
+    ((h, (omega arith, omega (arith, a .task .shape .base, a .task .shape .levels, places-to (a .task)))), (limits (a .task) 1048576 18014398509481984 (omega arith) (omega arith), curve-costs (curve-wider 1048576 18014398509481984 (omega arith) (omega arith) acc-first))),
   )
 
   module _ (u : ℕ) (at : pos u ≡ getD zs 0 (pos 0) +ℤ pos 163840) {w2 : List ℕ} (m2 : WithLoss 1 u (g .base) (g .levels) w1 w2 free dst) where

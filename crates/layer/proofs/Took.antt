@@ -4,13 +4,13 @@ use mathlib.Core.List.{List}
 use mathlib.Core.Option.{Option}
 use mathlib.Core.Logic.{inl}
 use mathlib.Core.Bool.{true, false, cond}
-use Prim.Native.Nat.{ℕ, _+_, _*_, _≤_, _<_, min}
+use Prim.Native.Nat.{ℕ, suc, _+_, _*_, _≤_, _<_, min}
 use native.Mathlib.Omega.{arith}
-use native.Mathlib.Nat.{mul-le-mul}
+use native.Mathlib.Nat.{mul-le-mul, mul-le-mul-left}
 use Rattle.plan.specs.declared.Edge.{Edge}
 use Rattle.plan.specs.declared.Label.{Label}
 use Rattle.model.specs.Model.{penalty}
-use Rattle.model.specs.Labels.{countBefore}
+use Rattle.model.specs.Labels.{countBefore, counts}
 use Rattle.model.specs.Index.{noCost, edgeMin}
 use Rattle.model.specs.Held.{penaltyMost, penalty-most, Table}
 use Rattle.labels.specs.Boundary.{leadsFrom}
@@ -42,13 +42,13 @@ module _ (o : Option Label) (t : ℕ) (x : Edge) (k s cur : ℕ) (g : Shape) whe
   }
 
 -- a list's place is small
-pub count-low : (S k s : ℕ) → S ≤ 8 → k < 2 → s < 8 → k * S + s ≤ 15
-count-low S k s hS hk hs = let h : k ≤ 1 = omega arith in let a : k * S ≤ 1 * 8 = mul-le-mul h hS in omega arith
+pub count-low : (S k s : ℕ) → S ≤ 8 → k < counts → s < 8 → k * S + s ≤ 8 * counts
+count-low S k s hS hk hs = let a : suc k * S ≤ counts * 8 = mul-le-mul hk hS in let b : k * S ≤ k * 8 = mul-le-mul-left k hS in omega arith
 
-pub list-low : (S L k s : ℕ) → S ≤ 8 → L ≤ 1024 → k < 2 → s < 8 → (k * S + s) * (4 * L) ≤ 61440
+pub list-low : (S L k s : ℕ) → S ≤ 8 → L ≤ 1024 → k < counts → s < 8 → (k * S + s) * (4 * L) ≤ 8 * counts * 4096
 list-low S L k s hS hL hk hs =
     let h : 4 * L ≤ 4096 = omega arith in
-    let b : (k * S + s) * (4 * L) ≤ 15 * 4096 = mul-le-mul (count-low S k s hS hk hs) h in
+    let b : (k * S + s) * (4 * L) ≤ 8 * counts * 4096 = mul-le-mul (count-low S k s hS hk hs) h in
     omega arith
 
 -- the code's places are the definition's

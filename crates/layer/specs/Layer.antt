@@ -5,7 +5,7 @@ use Prim.Native.Nat.{ℕ, _+_, _*_, _≤_, _<_}
 use lib.IntN.{ℤ, pos, natAbs, _+ℤ_}
 use Rattle.plan.specs.declared.Plan.{Plan}
 use Rattle.model.specs.Model.{width}
-use Rattle.model.specs.Labels.{counts}
+use Rattle.model.specs.Labels.{counts, usedAt}
 use Rattle.model.specs.Held.{penaltyMost}
 use Rattle.model.specs.Ends.{lossMost, tableAt}
 use Rattle.curve.specs.Curve.{Curve}
@@ -18,6 +18,10 @@ stepMost = lossMost + penaltyMost
 -- the place of the lowest level
 unfoldable pub baseOf : Plan → ℕ
 baseOf P = natAbs (P .lo +ℤ pos 163840)
+
+-- no place in the workspace that code computes is above this, so that no sum of them overflows
+abbrev pub placeMost : ℕ
+placeMost = 67108864
 
 -- where the list of count k and state s stands in the layer at o
 unfoldable pub listAt : ℕ → ℕ → ℕ → ℕ → ℕ → ℕ
@@ -33,6 +37,10 @@ pub record ShapeOf (P : Plan) (g : Shape) : Type 0 where
   pub levels : g .levels ≡ width P
   pub base : g .base ≡ baseOf P
 
--- the layer after t readings stands at o
+-- the words of a layer: a list has four for each level
+abbrev pub layerWords : Plan → ℕ
+layerWords P = 4 * counts * (P .states * width P)
+
+-- the layer after t readings stands at o: the lists of the counts that are used
 pub record Layer (P : Plan) (zs : List ℤ) (t : ℕ) (ws : List ℕ) (o : ℕ) : Type 0 where
-  pub list : (k s : ℕ) → k < counts → s < P .states → Curve t (t * stepMost) (baseOf P) (width P) ws (listAt o (P .states) (width P) k s) (tableAt P zs t k s)
+  pub list : (k s : ℕ) → k < usedAt P t → s < P .states → Curve t (t * stepMost) (baseOf P) (width P) ws (listAt o (P .states) (width P) k s) (tableAt P zs t k s)

@@ -6,35 +6,24 @@ use mathlib.Core.Option.{Option}
 use mathlib.Core.Bool.{true, _&&_, cond}
 use lib.Dec.{eqb}
 use Prim.Native.Nat.{ℕ, suc, _+_, _*_, _≤_, _<_}
-use lib.IntN.{ℤ, pos, _+ℤ_}
+use lib.IntN.{ℤ}
 use lib.ListN.{length, getD}
 use Rattle.plan.specs.declared.Plan.{Plan}
 use Rattle.plan.specs.declared.Label.{Label}
-use Rattle.model.specs.Model.{width, onGrid, lossAt, inSet}
+use Rattle.model.specs.Model.{width, inSet}
 use Rattle.model.specs.Labels.{labelOn, counts}
-use Rattle.model.specs.Checked.{Checked}
 use Rattle.model.specs.Index.{noCost}
-use Rattle.model.specs.Ends.{lossMost, tableAt}
+use Rattle.model.specs.Ends.{tableAt}
 use Rattle.model.specs.Tables.{Ready}
 use Rattle.curve.specs.Curve.{Curve}
 use Rattle.edges.specs.Edge.{Off}
 use Rattle.layer.specs.declared.Shape.{Shape}
-use Rattle.layer.specs.Layer.{stepMost, baseOf, listAt, ShapeOf, Layer}
+use Rattle.layer.specs.Layer.{stepMost, baseOf, placeMost, listAt, layerWords, ShapeOf, Layer}
 
 -- a plan and a record that no number before 14 refuses, and their shape
 pub record Task (P : Plan) (zs : List ℤ) (g : Shape) : Type 0 where
-  pub checked : Checked P
   pub ready : Ready P zs
   pub shape : ShapeOf P g
-  pub most : length zs ≤ 4096
-  pub place : pos (baseOf P) ≡ P .lo +ℤ pos 163840
-  pub low : 131072 ≤ baseOf P
-  pub high : baseOf P + width P ≤ 196608
-  pub losses : (t : ℕ) (m : ℤ) → onGrid P m ≡ true → lossAt zs t m ≤ lossMost
-
--- the words of a layer
-abbrev pub layerWords : Plan → ℕ
-layerWords P = 8 * (P .states * width P)
 
 -- every word outside the list at dst and the three temporary lists at free is as before
 pub record Beside (dst free L : ℕ) (ws ws′ : List ℕ) : Type 0 where
@@ -53,7 +42,7 @@ pub record NextReady (P : Plan) (zs : List ℤ) (o : Option Label) (t cur dst fr
   pub below : cur + layerWords P ≤ free
   pub under : dst + 4 * width P ≤ free
   pub room : free + 12 * width P ≤ length ws
-  pub place : free ≤ 1048576
+  pub place : free ≤ placeMost
 
 pub record NextList (P : Plan) (zs : List ℤ) (t dst free k s : ℕ) (ws ws′ : List ℕ) : Type 0 where
   pub beside : Beside dst free (width P) ws ws′
@@ -99,7 +88,7 @@ pub record StepReady (P : Plan) (zs : List ℤ) (t cur next free : ℕ) (g : Sha
   pub below : cur + layerWords P ≤ free
   pub under : next + layerWords P ≤ free
   pub room : free + 12 * width P ≤ length ws
-  pub place : free ≤ 1048576
+  pub place : free ≤ placeMost
 
 -- the layer after t readings stands at o, and no word outside it and the temporary lists is changed
 pub record Stepped (P : Plan) (zs : List ℤ) (t o free : ℕ) (ws ws′ : List ℕ) : Type 0 where
@@ -113,4 +102,4 @@ pub record StartReady (P : Plan) (zs : List ℤ) (o free : ℕ) (g : Shape) (ws 
   pub more : 0 < length zs
   pub under : o + layerWords P ≤ free
   pub room : free + 12 * width P ≤ length ws
-  pub place : free ≤ 1048576
+  pub place : free ≤ placeMost

@@ -10,7 +10,7 @@ use Rattle.plan.specs.declared.Edge.{Edge}
 use Rattle.plan.specs.declared.Label.{Label}
 use Rattle.plan.specs.Build.{gapOf, noEdge}
 use Rattle.model.specs.Model.{edgeAt, penalty, width}
-use Rattle.model.specs.Labels.{labelOn, countBefore}
+use Rattle.model.specs.Labels.{labelOn, countBefore, counts}
 use Rattle.model.specs.Held.{fromCount}
 use Rattle.model.specs.Index.{noCost, edgeMin}
 use Rattle.model.specs.Held.{raise, penaltyMost, Table, leadsAt, byEdge, minBelow}
@@ -18,7 +18,7 @@ use Rattle.labels.specs.Boundary.{leadsFrom, leads-at}
 use Rattle.curve.specs.Curve.{Curve, Limits}
 use Rattle.edges.specs.Edge.{Ready, OneOf, Spared, Hand, Sound}
 use Rattle.layer.specs.declared.Shape.{Shape}
-use Rattle.layer.specs.Layer.{Shape-small, listAt}
+use Rattle.layer.specs.Layer.{Shape-small, placeMost, listAt}
 
 -- the list that the edge comes from
 abbrev pub source : Option Label → ℕ → Edge → ℕ → ℕ → Shape → ℕ
@@ -37,10 +37,10 @@ offered-by P t H k s j e = refl
 pub record MayTake (o : Option Label) (t : ℕ) (x : Edge) (k s cur : ℕ) (g : Shape) (acc next work : ℕ) (ws : List ℕ) : Type 0 where
   pub small : Shape-small g
   pub boundary : t < 65536
-  pub count : k < 2
-  pub place : cur ≤ 1048576
+  pub count : k < counts
+  pub place : cur ≤ placeMost
   pub limits : Limits 1048576 18014398509481984 (g .base) (g .levels)
-  pub before : leadsFrom o t x k s ≡ true → countBefore o t (x .kind) k < 2
+  pub before : leadsFrom o t x k s ≡ true → countBefore o t (x .kind) k < counts
   pub from : x .from < 8
   pub gap : gapOf (x .kind) ≤ 1023
   pub ready : leadsFrom o t x k s ≡ true → Ready acc next work (source o t x k cur g) (penalty (x .class)) (g .base) (g .levels) ws
@@ -66,15 +66,15 @@ leastOffered o t es n k s L H j = minBelow n (λ (e : ℕ). offered o t (edgeOf 
 pub record EdgesReady (o : Option Label) (t : ℕ) (es : List Edge) (n k s cur : ℕ) (g : Shape) (first second work : ℕ) (ws : List ℕ) : Type 0 where
   pub small : Shape-small g
   pub boundary : t < 65536
-  pub count : k < 2
-  pub place : cur ≤ 1048576
+  pub count : k < counts
+  pub place : cur ≤ placeMost
   pub limits : Limits 1048576 18014398509481984 (g .base) (g .levels)
   pub few : n ≤ 32
   pub some : 0 < g .levels
   pub so-far : Sound 18014398509481984 (g .base) (g .levels) ws first
   pub from : (e : ℕ) → e < n → edgeOf es e .from < 8
   pub gap : (e : ℕ) → e < n → gapOf (edgeOf es e .kind) ≤ 1023
-  pub before : (e : ℕ) → e < n → leadsFrom o t (edgeOf es e) k s ≡ true → countBefore o t (edgeOf es e .kind) k < 2
+  pub before : (e : ℕ) → e < n → leadsFrom o t (edgeOf es e) k s ≡ true → countBefore o t (edgeOf es e .kind) k < counts
   pub hand : (e : ℕ) → e < n → leadsFrom o t (edgeOf es e) k s ≡ true → Hand first second work (source o t (edgeOf es e) k cur g) (g .levels) (length ws)
   pub sound : (e : ℕ) → e < n → leadsFrom o t (edgeOf es e) k s ≡ true → Sound (18014398509481984 - penaltyMost) (g .base) (g .levels) ws (source o t (edgeOf es e) k cur g)
 

@@ -26,7 +26,7 @@ use Rattle.model.specs.Result.{whole, point, found, refused, foundSeg, f
 use Rattle.model.specs.Demand3.{demand3, unless-none}
 use Rattle.model.specs.Agree.{searched, searched-right}
 use Rattle.model.specs.Nodes.{Node, node}
-use Rattle.model.specs.Labels.{counts}
+use Rattle.model.specs.Labels.{counts, usedAt, used-most}
 use Rattle.model.specs.Opt.{opt, before, pointBest, pointCost}
 use Rattle.model.specs.Answer.{endCost, leastEnd, answer, trace, trace-right, way-is}
 use Rattle.model.specs.Run.{run, joins, runs, runNumbers, numbers}
@@ -70,8 +70,9 @@ room t h = omega arith
 
 -- ---- the cost at a point
 
-unfoldable pub pointAt : Table → ℕ → ℕ → ℕ
-pointAt H s j = minBelow counts (λ k. H k s j)
+-- the least over the first n counts
+unfoldable pub pointAt : ℕ → Table → ℕ → ℕ → ℕ
+pointAt n H s j = minBelow n (λ k. H k s j)
 
 unfoldable pub endAt : Plan → Table → ℕ → ℕ → ℕ
 endAt P H s j = cond (inSet (P .end) s) (H 0 s j) noCost
@@ -80,12 +81,15 @@ unfoldable pub leastEndAt : Plan → Table → ℕ
 leastEndAt P H = minBelow (P .states) (λ s. minBelow (width P) (λ j. endAt P H s j))
 
 module _ (P : Plan) (zs : List ℤ) (H : Table) (hold : Holding P zs (length zs) H) where
-  pub point-held : (s j : ℕ) → s < P .states → j < width P → pointCost P zs s (P .lo +ℤ pos j) ≡ held (pointAt H s j)
+  pub point-held : Checked P → (s j : ℕ) → s < P .states → j < width P → pointCost P zs s (P .lo +ℤ pos j) ≡ held (pointAt (usedAt P (length zs)) H s j)
   unfolding pointCost pointBest pointAt value
-  point-held s j hs hj =
-      ap (Option·map value) (sym (held-least counts (λ k. H k s j) ∙ least-ext counts _ _ (λ k hk. hold .at k s j hk hs hj)))
-      ∙ same (held (minBelow counts (λ k. H k s j)))
+  point-held ch s j hs hj =
+      ap (Option·map value) (sym (held-least n (λ k. H k s j) ∙ least-ext n _ _ (λ k hk. hold .at k s j (omega (arith, used-most P ch (length zs))) hs hj)))
+      ∙ same (held (minBelow n (λ k. H k s j)))
     where
+      n : ℕ
+      n = usedAt P (length zs)
+
       same : (o : Option Cost) → Option·map (λ (x : ℕ). x) o ≡ o
       same none = refl
       same (some x) = refl
@@ -226,9 +230,9 @@ module _ (P : Plan) (zs : List ℤ) (accepts : searchNumber P (length zs) ≡ 0)
         ∙ ap (found (leastEndAt P H)) (numbers-at P zs (length zs) last-node (leastEndAt P H) (accepted P (length zs) accepts .some-readings) last-value)
 
 pub point-by : (P : Plan) (zs : List ℤ) (s j : ℕ) → pointNumber P (length zs) s (P .lo +ℤ pos j) ≡ 0 → j < width P → (H : Table) → Holding P zs (length zs) H
-    → resultOf P zs (point s (P .lo +ℤ pos j)) ≡ foundCost (held (pointAt H s j))
+    → resultOf P zs (point s (P .lo +ℤ pos j)) ≡ foundCost (held (pointAt (usedAt P (length zs)) H s j))
 unfolding searched
 point-by P zs s j n hj H hold =
     let a = accepted-point P (length zs) s (P .lo +ℤ pos j) n in
     sym (searched-right P zs (point s (P .lo +ℤ pos j))) ∙ unless-none (pointNumber P (length zs) s (P .lo +ℤ pos j)) (foundCost (pointCost P zs s (P .lo +ℤ pos j))) n
-    ∙ ap foundCost (point-held P zs H hold s j (a .state) hj)
+    ∙ ap foundCost (point-held P zs H hold (a .plan) s j (a .state) hj)

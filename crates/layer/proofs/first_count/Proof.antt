@@ -23,7 +23,7 @@ loop-holds c = (omega arith, no-lists _ _ _ _ _ _ (λ k s q. omega (arith, q .1)
 
 -- src/lib.rt:205:13
 list-at-requires : tie.Need-list-at-requires Inv-loop μ-loop
-list-at-requires c κs = (shape-small (c .before .before .before .pre .0 .task), (omega (arith, c .before .before .before .pre .0 .under, c .before .before .before .pre .0 .place), (c .before .before .before .pre .1, omega (arith, c .loop-test .taken, c .before .before .before .pre .0 .task .shape .states, c .before .before .before .pre .0 .task .checked .few-states))))
+list-at-requires c κs = (shape-small (c .before .before .before .pre .0 .task), (omega (arith, c .before .before .before .pre .0 .under, c .before .before .before .pre .0 .place), (c .before .before .before .pre .1, omega (arith, c .loop-test .taken, c .before .before .before .pre .0 .task .shape .states, c .before .before .before .pre .0 .task .ready .plan .few-states))))
 
 -- src/lib.rt:206:9
 first-list-requires : tie.Need-first-list-requires Inv-loop μ-loop

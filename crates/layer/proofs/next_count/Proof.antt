@@ -24,7 +24,7 @@ loop-holds c = (omega arith, no-lists _ _ _ _ _ _ (λ k s q. omega (arith, q .1)
 
 -- src/lib.rt:166:13
 list-at-requires : tie.Need-list-at-requires Inv-loop μ-loop
-list-at-requires c κs = (shape-small (c .before .before .before .before .pre .0 .0 .task), (omega (arith, c .before .before .before .before .pre .0 .0 .under, c .before .before .before .before .pre .0 .0 .place), (c .before .before .before .before .pre .0 .1 .1, omega (arith, c .loop-test .taken, c .before .before .before .before .pre .0 .0 .task .shape .states, c .before .before .before .before .pre .0 .0 .task .checked .few-states))))
+list-at-requires c κs = (shape-small (c .before .before .before .before .pre .0 .0 .task), (omega (arith, c .before .before .before .before .pre .0 .0 .under, c .before .before .before .before .pre .0 .0 .place), (c .before .before .before .before .pre .0 .1 .1, omega (arith, c .loop-test .taken, c .before .before .before .before .pre .0 .0 .task .shape .states, c .before .before .before .before .pre .0 .0 .task .ready .plan .few-states))))
 
 -- src/lib.rt:167:9
 next-list-requires : tie.Need-next-list-requires Inv-loop μ-loop

@@ -1,8 +1,11 @@
 use Prim.Native.Nat.{ℕ, suc, _+_, _-_, _≤_}
 use native.Mathlib.Omega.{arith}
 use mathlib.Core.Path.{_≡_, _∙_, sym}
+use native.Mathlib.Numerals.{add-one}
+use Rattle.model.specs.Labels.{usedAt}
+use Rattle.labels.proofs.counts_at.Reads as counts-at-reads
 use Rattle.layer.specs.Next.{Lists, Counts}
-use Rattle.layer.proofs.Lists.{no-lists, still-ready, counts-more, stepped}
+use Rattle.layer.proofs.Lists.{no-lists, still-ready, counts-more, stepped, next-used}
 use borrow.Author.Needs.{needs}
 use Rattle.layer.proofs.next_layer.Statement.{statement}
 use Rattle.layer.proofs.next_layer.Tie as tie
@@ -12,42 +15,40 @@ use Rattle.labels.proofs.label_on.Reads as label-on-reads
 use Rattle.layer.proofs.next_count.Reads as next-count-reads
 
 abbrev Inv-loop : tie.InvT-loop
-Inv-loop ws₀ plan code readings t cur next free g on k₀ ws k = (k ≤ 2) × Lists (Counts plan k) plan readings (suc t) next free ws₀ ws
+Inv-loop ws₀ plan code readings t cur next free g on n k₀ ws k = (k ≤ n) × Lists (Counts plan k) plan readings (suc t) next free ws₀ ws
 
 abbrev μ-loop : tie.MeasureT-loop
-μ-loop ws₀ plan code readings t cur next free g on k₀ ws k = 2 - k
+μ-loop ws₀ plan code readings t cur next free g on n k₀ ws k = n - k
 
--- src/lib.rt:188:9
 label-on-requires : tie.Need-label-on-requires Inv-loop μ-loop
-label-on-requires c κs = (c .before .before .pre .0 .task .checked .few-labels, c .before .before .pre .1)
+label-on-requires c κs = (c .before .before .pre .0 .task .ready .plan .few-labels, c .before .before .pre .1)
 
--- src/lib.rt:190:5
+add-counts-at : tie.Need-add-counts-at Inv-loop μ-loop
+add-counts-at c = omega (arith, c .before .before .before .pre .0 .more, c .before .before .before .pre .0 .task .ready .few-readings)
+
+counts-at-requires : tie.Need-counts-at-requires Inv-loop μ-loop
+counts-at-requires c κs = (c .before .before .before .pre .0 .task .ready .plan, c .before .before .before .pre .1)
+
 loop-holds : tie.Need-loop-holds Inv-loop μ-loop
 loop-holds c = (omega arith, no-lists _ _ _ _ _ _ (λ k s q. omega (arith, q .0)) _)
 
--- src/lib.rt:191:9
 next-count-requires : tie.Need-next-count-requires Inv-loop μ-loop
-next-count-requires c κs = ((still-ready (c .before .before .before .before .before .before .pre .0) (λ k s q. (omega (arith, q .0, c .before .loop-test .taken), q .1)) (c .before .before .loop .inv .1), (c .before .before .before .label-on .ensures, omega (arith, c .before .loop-test .taken))), c .before .before .before .before .before .before .pre .1)
+next-count-requires c κs = ((still-ready (c .before .before .before .before .before .before .before .pre .0) (λ k s q. (omega (arith, q .0, c .before .loop-test .taken, c .before .before .before .counts-at .ensures .1), q .1)) (c .before .before .loop .inv .1), (c .before .before .before .before .label-on .ensures, omega (arith, c .before .loop-test .taken, c .before .before .before .counts-at .ensures .1))), c .before .before .before .before .before .before .before .pre .1)
 
--- src/lib.rt:192:9
 add-k : tie.Need-add-k Inv-loop μ-loop
 add-k c = omega (arith, c .before .before .before .before .loop-test .taken)
 
--- src/lib.rt:190:5
 loop-less : tie.Need-loop-less Inv-loop μ-loop
 loop-less c = omega (arith, c .before .before .before .before .loop-test .taken)
 
--- src/lib.rt:190:5
 loop-again : tie.Need-loop-again Inv-loop μ-loop
-loop-again c = (omega (arith, c .before .before .before .before .loop-test .taken), counts-more _ _ _ (c .before .before .before .before .before .before .before .before .before .pre .0 .under) (omega (arith, c .before .before .before .before .loop-test .taken)) (c .before .before .before .before .before .loop .inv .1) (c .before .before .next-count .ensures))
+loop-again c = (omega (arith, c .before .before .before .before .loop-test .taken), counts-more _ _ _ (c .before .before .before .before .before .before .before .before .before .before .pre .0 .under) (omega (arith, c .before .before .before .before .loop-test .taken, c .before .before .before .before .before .before .counts-at .ensures .1)) (c .before .before .before .before .before .loop .inv .1) (c .before .before .next-count .ensures))
 
--- src/lib.rt:173:1
 same-length : tie.Need-same-length Inv-loop μ-loop
 same-length c = c .before .loop .inv .1 .size
 
--- src/lib.rt:173:1
 returns : tie.Need-returns Inv-loop μ-loop
-returns c = stepped (omega (arith, c .loop-test .left, c .before .loop .inv .0)) (c .before .loop .inv .1)
+returns c = stepped (next-used _ _ (omega (arith, c .loop-test .left, c .before .loop .inv .0)) (c .before .before .counts-at .ensures .0)) (omega (arith, c .before .loop .inv .0, c .before .before .counts-at .ensures .1)) (c .before .loop .inv .1)
 
 pub next-layer-spec : {M : Type 1} → statement M
 next-layer-spec =
@@ -56,6 +57,8 @@ next-layer-spec =
     Inv-loop
     μ-loop
     label-on-requires
+    add-counts-at
+    counts-at-requires
     loop-holds
     next-count-requires
     add-k
