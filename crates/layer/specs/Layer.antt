@@ -37,9 +37,12 @@ pub record ShapeOf (P : Plan) (g : Shape) : Type 0 where
   pub levels : g .levels ≡ width P
   pub base : g .base ≡ baseOf P
 
--- the words of a layer: a list has four for each level
+-- the words of a layer for each state and level, a list having four for each level; and all of them
+abbrev pub layerCell : ℕ
+layerCell = 4 * counts
+
 abbrev pub layerWords : Plan → ℕ
-layerWords P = 4 * counts * (P .states * width P)
+layerWords P = layerCell * (P .states * width P)
 
 -- the layer after t readings stands at o: the lists of the counts that are used
 pub record Layer (P : Plan) (zs : List ℤ) (t : ℕ) (ws : List ℕ) (o : ℕ) : Type 0 where

@@ -12,13 +12,13 @@ use lib.Seq.{getD-set-same, getD-set-other}
 use Rattle.integers.specs.Rep.{le-or-lt}
 use Rattle.plan.specs.declared.Plan.{Plan}
 use Rattle.model.specs.Model.{width}
-use Rattle.model.specs.Labels.{counts}
+use Rattle.model.specs.Checked.{Checked}
+use Rattle.model.specs.Labels.{counts, usedAt, used-most}
 use Rattle.model.specs.Ends.{tableAt}
 use Rattle.curve.specs.Pieces.{Held}
 use Rattle.curve.specs.Lists.{count-most, count-same}
 use Rattle.curve.specs.Curve.{Curve, curve-same}
-use Rattle.layer.specs.Layer.{stepMost, baseOf, listAt, Layer}
-use Rattle.layer.specs.Next.{layerWords}
+use Rattle.layer.specs.Layer.{stepMost, baseOf, listAt, layerWords, Layer}
 use Rattle.layer.proofs.Next.{list-within}
 use Rattle.saved.specs.Packed.{Chain, Inside, Row, Packing, Unpacked}
 use Rattle.saved.specs.Walk.{stackAt, limit, Packed, Entry, Stack, timeOf, offOf, Pushed, Dropped}
@@ -43,44 +43,44 @@ pushed T n t e z h = record {
 
 -- ---- one layer
 
--- the number of a list among those of its layer
-list-number : (S k s : ℕ) → k < counts → s < S → k * S + s < counts * S
-list-number S k s hk hs = omega (arith, mul-le-mul-right S hk)
+-- the number of a list among those of its layer, which has n counts
+list-number : (n S k s : ℕ) → k < n → s < S → k * S + s < n * S
+list-number n S k s hk hs = omega (arith, mul-le-mul-right S hk)
 
 module _ {P : Plan} {zs : List ℤ} {t : ℕ} where
-  pub layer-same : {ws ws′ : List ℕ} {o : ℕ} → length ws′ ≡ length ws → ((i : ℕ) → o ≤ i → i < o + layerWords P → getD ws′ i 0 ≡ getD ws i 0) → Layer P zs t ws o → Layer P zs t ws′ o
-  layer-same {o = o} e f y = record {
+  pub layer-same : {ws ws′ : List ℕ} {o : ℕ} → Checked P → length ws′ ≡ length ws → ((i : ℕ) → o ≤ i → i < o + layerWords P → getD ws′ i 0 ≡ getD ws i 0) → Layer P zs t ws o → Layer P zs t ws′ o
+  layer-same {o = o} ch e f y = record {
     list = λ k s hk hs.
-        let b = list-within o (P .states) (width P) k s hk hs in
+        let b = list-within o (P .states) (width P) k s (omega (arith, used-most P ch t)) hs in
         let c = y .list k s hk hs in
         curve-same e c (record { word = λ i u v. f i (omega arith) (omega (arith, count-most (c .held .formed))) });
   }
 
   -- its lists in their order
-  pub layer-row : {ws : List ℕ} {o : ℕ} → 1 ≤ P .states → P .states ≤ 8 → width P ≤ 1024 → Layer P zs t ws o → Row ws o (counts * P .states) (width P)
+  pub layer-row : {ws : List ℕ} {o : ℕ} → Checked P → Layer P zs t ws o → Row ws o (usedAt P t * P .states) (width P)
   unfolding listAt
-  layer-row {ws} {o} h few narrow y = record {
+  layer-row {ws} {o} ch y = record {
     list = λ q g.
         let e : q / P .states * P .states + q % P .states ≡ q = div-add-mod' q (P .states) in
-        let m : q % P .states < P .states = mod-lt q h in
-        let k : q / P .states < counts = ⊎-elim (λ p. absurd (omega (arith, mul-le-mul-right (P .states) p))) (λ p. p) (le-or-lt counts (q / P .states)) in
+        let m : q % P .states < P .states = mod-lt q (ch .some-states) in
+        let k : q / P .states < usedAt P t = ⊎-elim (λ p. absurd (omega (arith, mul-le-mul-right (P .states) p))) (λ p. p) (le-or-lt (usedAt P t) (q / P .states)) in
         subst (λ (x : ℕ). Held ws (o + x * (4 * width P)) (width P)) e (y .list (q / P .states) (q % P .states) k m .held);
-    few = omega arith;
-    narrow = narrow;
+    few = omega (arith, mul-le-mul (used-most P ch t) (ch .few-states));
+    narrow = ch .narrow;
   }
 
-  pub layer-packed : {ws ws′ : List ℕ} {o a e : ℕ} → Layer P zs t ws o → Packing ws ws′ o a e (counts * P .states) (width P) → Packed P zs t ws′ a e
+  pub layer-packed : {ws ws′ : List ℕ} {o a e : ℕ} → Layer P zs t ws o → Packing ws ws′ o a e (usedAt P t * P .states) (width P) → Packed P zs t ws′ a e
   unfolding listAt
   layer-packed y p = record {
     chain = p .chain;
-    list = λ k s m hk hs d. p .moved (k * P .states + s) m (list-number (P .states) k s hk hs) d .curve _ _ _ _ (y .list k s hk hs);
+    list = λ k s m hk hs d. p .moved (k * P .states + s) m (list-number (usedAt P t) (P .states) k s hk hs) d .curve _ _ _ _ (y .list k s hk hs);
   }
 
-  pub packed-layer : {ws ws′ : List ℕ} {o a e : ℕ} → Packed P zs t ws a e → Unpacked ws ws′ a o (counts * P .states) (width P) → Layer P zs t ws′ o
+  pub packed-layer : {ws ws′ : List ℕ} {o a e : ℕ} → Packed P zs t ws a e → Unpacked ws ws′ a o (usedAt P t * P .states) (width P) → Layer P zs t ws′ o
   unfolding listAt
   packed-layer y p = record {
     list = λ k s hk hs.
-        let n = list-number (P .states) k s hk hs in
+        let n = list-number (usedAt P t) (P .states) k s hk hs in
         let d = chain-part (k * P .states + s) (y .chain) (omega arith) in
         p .moved (k * P .states + s) (d .end) n (d .chain) .curve _ _ _ _ (y .list k s (d .end) hk hs (d .chain));
   }
@@ -88,12 +88,12 @@ module _ {P : Plan} {zs : List ℤ} {t : ℕ} where
   pub packed-same : {ws ws′ : List ℕ} {a e : ℕ} → length ws′ ≡ length ws → ((i : ℕ) → a ≤ i → i < e → getD ws′ i 0 ≡ getD ws i 0) → Packed P zs t ws a e → Packed P zs t ws′ a e
   packed-same {ws} {ws′} {a} {e} z f y = record { chain = there; list = each }
     where
-      there : Chain (width P) ws′ a (counts * P .states) e
+      there : Chain (width P) ws′ a (usedAt P t * P .states) e
       there = chain-same z f (y .chain)
 
-      each : (k s m : ℕ) → k < counts → s < P .states → Chain (width P) ws′ a (k * P .states + s) m → Curve t (t * stepMost) (baseOf P) (width P) ws′ m (tableAt P zs t k s)
+      each : (k s m : ℕ) → k < usedAt P t → s < P .states → Chain (width P) ws′ a (k * P .states + s) m → Curve t (t * stepMost) (baseOf P) (width P) ws′ m (tableAt P zs t k s)
       each k s m hk hs d =
-          let n = list-number (P .states) k s hk hs in
+          let n = list-number (usedAt P t) (P .states) k s hk hs in
           let b = chain-next there d n in
           let d′ = chain-same (sym z) (λ i u v. sym (f i u (omega (arith, b .by)))) d in
           let c = y .list k s m hk hs d′ in

@@ -11,18 +11,26 @@ use lib.ListN.{length, getD, set}
 use Rattle.integers.specs.Rep.{le-or-lt}
 use Rattle.plan.specs.declared.Plan.{Plan}
 use Rattle.model.specs.Model.{width}
-use Rattle.model.specs.Labels.{counts}
+use Rattle.model.specs.Checked.{Checked}
+use Rattle.model.specs.Labels.{counts, usedAt, used-most}
 use Rattle.layer.specs.declared.Shape.{Shape}
-use Rattle.layer.specs.Layer.{Layer}
-use Rattle.layer.specs.Next.{layerWords, StepReady, Stepped, StartReady}
-use Rattle.layer.proofs.Next.{shape-small}
+use Rattle.layer.specs.Layer.{placeMost, layerCell, layerWords, ShapeOf, Layer}
+use Rattle.layer.specs.Next.{StepReady, Stepped, StartReady}
 use Rattle.saved.specs.declared.Walk.{Walk}
 use Rattle.saved.specs.declared.Room.{Room}
 use Rattle.saved.specs.declared.Room.the-variants.{Upto}
 use Rattle.saved.specs.Packed.{Inside, Row, PackReady, Packing, Saves, UnpackReady, Unpacked}
-use Rattle.saved.specs.Walk.{stackAt, limit, Places, Entry, Stack, timeOf, offOf, At, Workspace, Walked, Reached, Pushed, Dropped, Restarted, Stops}
+use Rattle.saved.specs.Walk.{freeCell, limitCell, stackAt, limit, Places, Entry, Stack, timeOf, offOf, At, Workspace, Walked, Reached, Pushed, Dropped, Restarted, Stops}
 use Rattle.saved.proofs.Chains.{inside-wider, inside-then}
 use Rattle.saved.proofs.Stacks.{layer-same, layer-row, layer-packed, packed-layer, off-low, off-high, stack-same, stack-kept, stack-pushed, stack-empty}
+
+-- how many lists a layer has
+pub lists-are : {P : Plan} {g : Shape} (t n : ℕ) → Checked P → ShapeOf P g → n ≡ usedAt P t → n ≤ counts → (n * g .states ≡ usedAt P t * P .states) × (n * g .states ≤ 8 * counts)
+lists-are {P} {g} t n ch s e h = (rw (e, s .states) refl, rw (s .states) (omega (arith, mul-le-mul h (ch .few-states))))
+
+pub stop-row : {P : Plan} {g : Shape} {w : Walk} {t : ℕ} {T ws : List ℕ} (a : Stops P g w t T ws) {n : ℕ} → n ≡ usedAt P (w .time) * P .states
+    → Row ws (w .cur) n (g .levels) × (w .cur + n * (4 * g .levels) ≤ placeMost)
+stop-row a e = rw e (a .row, a .place)
 
 pub space-then : {P : Plan} {zs : List ℤ} {g : Shape} {ws ws′ : List ℕ} → Workspace P zs g ws → length ws′ ≡ length ws → Workspace P zs g ws′
 space-then a e = record { task = a .task; some = a .some; room = omega (arith, a .room) }
@@ -31,10 +39,14 @@ module _ {P : Plan} {zs : List ℤ} {g : Shape} {ws : List ℕ} (a : Workspace P
   -- ---- places
 
   wide : width P ≤ P .states * width P
-  wide = omega (arith, mul-le-mul-right (width P) (a .task .checked .some-states))
+  wide = omega (arith, mul-le-mul-right (width P) (a .task .ready .plan .some-states))
+
+  -- the lists of the layer after t readings lie within its place
+  lists-low : (t : ℕ) → usedAt P t * P .states * (4 * width P) ≤ layerWords P
+  lists-low t = omega (arith, mul-le-mul-right (4 * width P) (mul-le-mul-right (P .states) (used-most P (a .task .ready .plan) t)))
 
   small : P .states * width P ≤ 8192
-  small = mul-le-mul (a .task .checked .few-states) (a .task .checked .narrow)
+  small = mul-le-mul (a .task .ready .plan .few-states) (a .task .ready .plan .narrow)
 
   pub stack-fits : stackAt P ≤ limit P
   stack-fits = omega (arith, wide)
@@ -42,11 +54,11 @@ module _ {P : Plan} {zs : List ℤ} {g : Shape} {ws : List ℕ} (a : Workspace P
   pub area-is : {x : ℕ} → x ≡ g .states * g .levels → x ≡ P .states * width P
   area-is e = rw (a .task .shape .states, a .task .shape .levels) at e
 
-  layers-low : {cur other : ℕ} → Places P cur other → (cur + layerWords P ≤ 16 * (P .states * width P)) × (other + layerWords P ≤ 16 * (P .states * width P))
+  layers-low : {cur other : ℕ} → Places P cur other → (cur + layerWords P ≤ freeCell * (P .states * width P)) × (other + layerWords P ≤ freeCell * (P .states * width P))
   layers-low = ⊎-elim (λ p. (omega arith, omega arith)) (λ p. (omega arith, omega arith))
 
   -- no word from the stack on is touched
-  above-layers : {x t o : ℕ} {ws′ : List ℕ} → x ≡ g .states * g .levels → o + layerWords P ≤ 16 * (P .states * width P) → Stepped P zs t o (16 * x) ws ws′ → (i : ℕ) → stackAt P ≤ i → getD ws′ i 0 ≡ getD ws i 0
+  above-layers : {x t o : ℕ} {ws′ : List ℕ} → x ≡ g .states * g .levels → o + layerWords P ≤ freeCell * (P .states * width P) → Stepped P zs t o (freeCell * x) ws ws′ → (i : ℕ) → stackAt P ≤ i → getD ws′ i 0 ≡ getD ws i 0
   above-layers e h m i p = m .word i (inr (omega arith)) (inr (omega (arith, area-is e)))
 
   within : {ws′ : List ℕ} → length ws′ ≡ length ws → ((i : ℕ) → stackAt P ≤ i → getD ws′ i 0 ≡ getD ws i 0) → Inside 0 (stackAt P) ws ws′
@@ -65,11 +77,11 @@ module _ {P : Plan} {zs : List ℤ} {g : Shape} {ws : List ℕ} (a : Workspace P
   -- ---- starting again
 
   -- at the first reading, with no entry in the table
-  pub empty-ready : {x : ℕ} (T : List ℕ) → x ≡ g .states * g .levels → length T ≡ 193 → Workspace P zs g ws × (Places P 0 (8 * x) × Stack P zs 0 (set T 96 (16 * x + 12 * g .levels)) ws)
+  pub empty-ready : {x : ℕ} (T : List ℕ) → x ≡ g .states * g .levels → length T ≡ 193 → Workspace P zs g ws × (Places P 0 (layerCell * x) × Stack P zs 0 (set T 96 (freeCell * x + 12 * g .levels)) ws)
   empty-ready {x} T e z = (a, (inl (refl, omega (arith, area-is e)), stack-empty _ T ws z (omega (arith, area-is e, a .task .shape .levels)) stack-fits))
 
   module _ {cur other : ℕ} (places : Places P cur other) where
-    pub start-ready : {x : ℕ} → x ≡ g .states * g .levels → StartReady P zs cur (16 * x) g ws
+    pub start-ready : {x : ℕ} → x ≡ g .states * g .levels → StartReady P zs cur (freeCell * x) g ws
     start-ready e = record {
       task = a .task;
       more = omega (arith, a .some);
@@ -78,7 +90,7 @@ module _ {P : Plan} {zs : List ℤ} {g : Shape} {ws : List ℕ} (a : Workspace P
       place = omega (arith, area-is e, small);
     }
 
-    pub restarted-first : {x n : ℕ} {T ws′ : List ℕ} → x ≡ g .states * g .levels → n ≡ 0 → Stepped P zs 1 cur (16 * x) ws ws′ → Restarted P zs n T ws ws′ (record { time = 1; cur = cur; other = other; count = n })
+    pub restarted-first : {x n : ℕ} {T ws′ : List ℕ} → x ≡ g .states * g .levels → n ≡ 0 → Stepped P zs 1 cur (freeCell * x) ws ws′ → Restarted P zs n T ws ws′ (record { time = 1; cur = cur; other = other; count = n })
     restarted-first e h m = record {
       at = record { some = omega arith; most = a .some; places = places; layer = m .layer };
       count = refl;
@@ -88,35 +100,39 @@ module _ {P : Plan} {zs : List ℤ} {g : Shape} {ws : List ℕ} (a : Workspace P
     }
 
     module _ {n : ℕ} {T : List ℕ} (k : Stack P zs n T ws) (h : 0 < n) where
-      pub unpack-ready : UnpackReady ws (offOf T (n - 1)) cur (counts * g .states) (g .levels)
-      unpack-ready = rw (a .task .shape .states, a .task .shape .levels) (record {
+      -- the number of lists in the top entry
+      abbrev lists : ℕ
+      lists = usedAt P (timeOf T (n - 1)) * P .states
+
+      pub unpack-ready : {m : ℕ} → m ≡ lists → UnpackReady ws (offOf T (n - 1)) cur m (g .levels)
+      unpack-ready e = rw (e, a .task .shape .levels) (record {
         end = offOf T (n - 1 + 1);
         chain = k .entry (n - 1) (omega arith) .packed .chain;
-        below = omega (arith, layers-low places, off-low k (n - 1) (omega arith));
+        below = omega (arith, layers-low places, lists-low (timeOf T (n - 1)), off-low k (n - 1) (omega arith));
         start = omega (arith, off-high k (n - 1) (omega arith), k .top, a .room);
-        few = omega (arith, a .task .checked .few-states);
-        narrow = a .task .checked .narrow;
+        few = omega (arith, mul-le-mul (used-most P (a .task .ready .plan) (timeOf T (n - 1))) (a .task .ready .plan .few-states));
+        narrow = a .task .ready .plan .narrow;
       })
 
-      pub restarted-top : {ws′ : List ℕ} → Unpacked ws ws′ (offOf T (n - 1)) cur (counts * g .states) (g .levels) → Restarted P zs n T ws ws′ (record { time = timeOf T (n - 1); cur = cur; other = other; count = n })
-      restarted-top {ws′} m = record {
+      pub restarted-top : {ws′ : List ℕ} {m : ℕ} → m ≡ lists → Unpacked ws ws′ (offOf T (n - 1)) cur m (g .levels) → Restarted P zs n T ws ws′ (record { time = timeOf T (n - 1); cur = cur; other = other; count = n })
+      restarted-top {ws′} e m = record {
         at = record { some = y .some; most = y .most; places = places; layer = packed-layer (y .packed) u };
         count = refl;
         first = λ z. absurd (omega arith);
         loaded = λ z. refl;
-        inside = within (m .inside .size) (λ i p. u .inside .word i (inr (omega (arith, layers-low places))));
+        inside = within (m .inside .size) (λ i p. u .inside .word i (inr (omega (arith, layers-low places, lists-low (timeOf T (n - 1))))));
       }
         where
           y : Entry P zs (timeOf T (n - 1)) ws (offOf T (n - 1)) (offOf T (n - 1 + 1))
           y = k .entry (n - 1) (omega arith)
 
-          u : Unpacked ws ws′ (offOf T (n - 1)) cur (counts * P .states) (width P)
-          u = rw (a .task .shape .states, a .task .shape .levels) at m
+          u : Unpacked ws ws′ (offOf T (n - 1)) cur lists (width P)
+          u = rw (e, a .task .shape .levels) at m
 
   -- ---- one reading further
 
   module _ {w : Walk} (p : At P zs w ws) where
-    pub step-ready : {x : ℕ} → x ≡ g .states * g .levels → w .time < length zs → StepReady P zs (w .time) (w .cur) (w .other) (16 * x) g ws
+    pub step-ready : {x : ℕ} → x ≡ g .states * g .levels → w .time < length zs → StepReady P zs (w .time) (w .cur) (w .other) (freeCell * x) g ws
     step-ready e h = record {
       task = a .task;
       some = p .some;
@@ -129,7 +145,7 @@ module _ {P : Plan} {zs : List ℤ} {g : Shape} {ws : List ℕ} (a : Workspace P
       place = omega (arith, area-is e, small);
     }
 
-    pub stepped-on : {x : ℕ} {ws′ : List ℕ} → x ≡ g .states * g .levels → w .time < length zs → Stepped P zs (suc (w .time)) (w .other) (16 * x) ws ws′
+    pub stepped-on : {x : ℕ} {ws′ : List ℕ} → x ≡ g .states * g .levels → w .time < length zs → Stepped P zs (suc (w .time)) (w .other) (freeCell * x) ws ws′
         → Reached P zs (w .time + 1) (w .count) ws ws′ (record { time = w .time + 1; cur = w .other; other = w .cur; count = w .count })
     stepped-on {x} {ws′} e h m = record {
       at = record {
@@ -145,38 +161,42 @@ module _ {P : Plan} {zs : List ℤ} {g : Shape} {ws : List ℕ} (a : Workspace P
 
     -- ---- saving
 
-    row : Row ws (w .cur) (counts * P .states) (width P)
-    row = layer-row (a .task .checked .some-states) (a .task .checked .few-states) (a .task .checked .narrow) (p .layer)
+    abbrev here : ℕ
+    here = usedAt P (w .time) * P .states
+
+    row : Row ws (w .cur) here (width P)
+    row = layer-row (a .task .ready .plan) (p .layer)
 
     module _ {T : List ℕ} (k : Stack P zs (w .count) T ws) where
-      pub stops : {t : ℕ} → w .time < t → t ≤ length zs → Stops g w t T ws
+      pub stops : {t : ℕ} → w .time < t → t ≤ length zs → Stops P g w t T ws
       stops h most = record {
-        small = shape-small (a .task);
-        row = rw (a .task .shape .states, a .task .shape .levels) row;
-        place = rw (a .task .shape .states, a .task .shape .levels) (omega (arith, layers-low (p .places), small));
+        checked = a .task .ready .plan;
+        shape = a .task .shape;
+        row = rw (a .task .shape .levels) row;
+        place = rw (a .task .shape .levels) (omega (arith, layers-low (p .places), lists-low (w .time), small));
         size = k .size;
         few = k .few;
         top = rw (a .task .shape .states, a .task .shape .levels) (k .top);
         before = h;
-        most = omega (arith, a .task .most);
+        most = omega (arith, a .task .ready .few-readings);
       }
 
       module _ {x : ℕ} (e : x ≡ g .states * g .levels) where
-        pub pack-ready : PackReady ws (w .cur) (offOf T (w .count)) (48 * x) (counts * g .states) (g .levels)
-        pack-ready = rw (a .task .shape .states, a .task .shape .levels) (record {
+        pub pack-ready : {n : ℕ} → n ≡ here → PackReady ws (w .cur) (offOf T (w .count)) (limitCell * x) n (g .levels)
+        pack-ready q = rw (q, a .task .shape .levels) (record {
           row = row;
-          below = omega (arith, layers-low (p .places), off-low k (w .count) (omega arith));
+          below = omega (arith, layers-low (p .places), lists-low (w .time), off-low k (w .count) (omega arith));
           order = omega (arith, area-is e, k .top);
           room = omega (arith, area-is e, a .room);
         })
 
-        module _ {ws′ : List ℕ} {r : Room} (m : Saves ws ws′ (w .cur) (offOf T (w .count)) (48 * x) (counts * g .states) (g .levels) r) where
+        module _ {ws′ : List ℕ} {r : Room} {n : ℕ} (all : n ≡ here) (m : Saves ws ws′ (w .cur) (offOf T (w .count)) (limitCell * x) n (g .levels) r) where
           saves-inside : Inside 0 (limit P) ws ws′
           saves-inside = inside-wider 0 (limit P) (omega arith) (omega (arith, area-is e)) (m .inside)
 
           -- what was there is still there
           still-layer : Layer P zs (w .time) ws′ (w .cur)
-          still-layer = layer-same (m .inside .size) (λ i u v. m .inside .word i (inl (omega (arith, layers-low (p .places), off-low k (w .count) (omega arith))))) (p .layer)
+          still-layer = layer-same (a .task .ready .plan) (m .inside .size) (λ i u v. m .inside .word i (inl (omega (arith, layers-low (p .places), off-low k (w .count) (omega arith))))) (p .layer)
 
           still-stack : Stack P zs (w .count) T ws′
           still-stack = stack-same k (m .inside .size) (λ i u v. m .inside .word i (inl v))
@@ -200,8 +220,8 @@ module _ {P : Plan} {zs : List ℤ} {g : Shape} {ws : List ℕ} (a : Workspace P
             inside = saves-inside;
           }
             where
-              u : Packing ws ws′ (w .cur) (offOf T (w .count)) o (counts * P .states) (width P)
-              u = rw (a .task .shape .states, a .task .shape .levels) at (m .upto o z .1)
+              u : Packing ws ws′ (w .cur) (offOf T (w .count)) o here (width P)
+              u = rw (all, a .task .shape .levels) at (m .upto o z .1)
 
 -- one walk and then another
 pub walked-then : {P : Plan} {zs : List ℤ} {t u : ℕ} {T T′ ws ws′ ws″ : List ℕ} {q r : Walk} → Walked P zs t T ws ws′ q → Walked P zs u T′ ws′ ws″ r → Walked P zs u T′ ws ws″ r

@@ -4,6 +4,7 @@ use mathlib.Core.Logic.{_⊎_}
 use mathlib.Core.List.{List}
 use Prim.Native.Nat.{ℕ, zero, suc, _+_, _*_, _≤_, _<_}
 use lib.ListN.{length, getD}
+use Rattle.model.specs.Labels.{counts}
 use Rattle.curve.specs.Pieces.{Held}
 use Rattle.curve.specs.Curve.{Curve}
 use Rattle.saved.specs.declared.Room.{Room}
@@ -26,7 +27,7 @@ pub record Inside (a e : ℕ) (ws ws′ : List ℕ) : Type 0 where
 -- n lists, each in 4 · L words, from o on
 pub record Row (ws : List ℕ) (o n L : ℕ) : Type 0 where
   pub list : (q : ℕ) → q < n → Held ws (o + q * (4 * L)) L
-  pub few : n ≤ 16
+  pub few : n ≤ 8 * counts
   pub narrow : L ≤ 1024
 
 -- ---- packing
@@ -54,7 +55,7 @@ pub record UnpackReady (ws : List ℕ) (a o n L : ℕ) : Type 0 where
   pub chain : Chain L ws a n end
   pub below : o + n * (4 * L) ≤ a
   pub start : a ≤ length ws
-  pub few : n ≤ 16
+  pub few : n ≤ 8 * counts
   pub narrow : L ≤ 1024
 
 -- the lists packed from a on stand in 4 · L words each from o on

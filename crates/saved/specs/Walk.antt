@@ -7,26 +7,34 @@ use lib.IntN.{ℤ}
 use lib.ListN.{length, getD}
 use Rattle.plan.specs.declared.Plan.{Plan}
 use Rattle.model.specs.Model.{width}
-use Rattle.model.specs.Labels.{counts}
+use Rattle.model.specs.Checked.{Checked}
+use Rattle.model.specs.Labels.{counts, usedAt}
 use Rattle.model.specs.Ends.{tableAt}
 use Rattle.curve.specs.Curve.{Curve}
 use Rattle.layer.specs.declared.Shape.{Shape}
-use Rattle.layer.specs.Layer.{stepMost, baseOf, Shape-small, Layer}
-use Rattle.layer.specs.Next.{Task, layerWords}
+use Rattle.layer.specs.Layer.{stepMost, baseOf, placeMost, layerCell, layerWords, ShapeOf, Layer}
+use Rattle.layer.specs.Next.{Task}
 use Rattle.saved.specs.declared.Walk.{Walk}
 use Rattle.saved.specs.Packed.{Chain, Inside, Row}
 
--- the first word of the stack of saved layers, and the first word after it
+-- The workspace, in words: two layers, the three temporary lists, then the stack of saved layers up to the limit. For each state and level: the first
+-- word after the layers, and the first after the stack.
+abbrev pub freeCell : ℕ
+freeCell = 2 * layerCell
+
+abbrev pub limitCell : ℕ
+limitCell = 24 * counts
+
 abbrev pub stackAt : Plan → ℕ
-stackAt P = 16 * (P .states * width P) + 12 * width P
+stackAt P = freeCell * (P .states * width P) + 12 * width P
 
 abbrev pub limit : Plan → ℕ
-limit P = 48 * (P .states * width P)
+limit P = limitCell * (P .states * width P)
 
 -- the layer after t readings stands packed from a up to e, in the order of its lists
 pub record Packed (P : Plan) (zs : List ℤ) (t : ℕ) (ws : List ℕ) (a e : ℕ) : Type 0 where
-  pub chain : Chain (width P) ws a (counts * P .states) e
-  pub list : (k s m : ℕ) → k < counts → s < P .states → Chain (width P) ws a (k * P .states + s) m → Curve t (t * stepMost) (baseOf P) (width P) ws m (tableAt P zs t k s)
+  pub chain : Chain (width P) ws a (usedAt P t * P .states) e
+  pub list : (k s m : ℕ) → k < usedAt P t → s < P .states → Chain (width P) ws a (k * P .states + s) m → Curve t (t * stepMost) (baseOf P) (width P) ws m (tableAt P zs t k s)
 
 -- the table of saved layers: entry i is the layer after timeOf T i readings, packed from offOf T i up to offOf T (i + 1)
 abbrev pub timeOf : List ℕ → ℕ → ℕ
@@ -112,12 +120,13 @@ pub record Restarted (P : Plan) (zs : List ℤ) (n : ℕ) (T ws ws′ : List ℕ
   pub inside : Inside 0 (stackAt P) ws ws′
 
 -- what is asked before the next stop is chosen
-pub record Stops (g : Shape) (w : Walk) (t : ℕ) (T ws : List ℕ) : Type 0 where
-  pub small : Shape-small g
-  pub row : Row ws (w .cur) (counts * g .states) (g .levels)
-  pub place : w .cur + counts * g .states * (4 * g .levels) ≤ 1048576
+pub record Stops (P : Plan) (g : Shape) (w : Walk) (t : ℕ) (T ws : List ℕ) : Type 0 where
+  pub checked : Checked P
+  pub shape : ShapeOf P g
+  pub row : Row ws (w .cur) (usedAt P (w .time) * P .states) (g .levels)
+  pub place : w .cur + usedAt P (w .time) * P .states * (4 * g .levels) ≤ placeMost
   pub size : length T ≡ 193
   pub few : w .count ≤ 96
-  pub top : offOf T (w .count) ≤ 48 * (g .states * g .levels)
+  pub top : offOf T (w .count) ≤ limitCell * (g .states * g .levels)
   pub before : w .time < t
   pub most : t ≤ 4096

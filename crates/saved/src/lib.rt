@@ -1,17 +1,23 @@
 // The layers in any order of time: some are saved, packed end to end in the workspace, and the others made again from them.
 // What is saved, and when, never changes an answer: each entry of the stack holds the layer after as many readings as it says.
 //
-// The words of the workspace, with S states and L levels: two layers from 0 and from 8 · S · L, three lists of next_layer from
-// 16 · S · L, and the stack of saved layers from 16 · S · L + 12 · L up to 48 · S · L.
+// The words of the workspace, with S states and L levels: two layers, from 0 and from LAYER_WORDS · S · L; the three temporary lists, from
+// FREE_AT · S · L; and the stack of saved layers, from FREE_WORDS · L after that up to ALL_WORDS · S · L.
 use layer::Shape;
 use plan::Plan;
 ghost use mathlib.Core.Path.{_≡_};
 ghost use Prim.Native.Nat.{_+_, _*_, _≤_, _<_};
 ghost use lib.ListN.{length};
 ghost use Rattle.coded.specs.Coded.{Coded};
-ghost use Rattle.layer.specs.Layer.{Shape-small};
+ghost use Rattle.model.specs.Checked.{Checked};
+ghost use Rattle.model.specs.Labels.{counts, usedAt};
+ghost use Rattle.layer.specs.Layer.{Shape-small, ShapeOf, placeMost};
 ghost use Rattle.saved.specs.Packed.{Row, PackReady, Saves, UnpackReady, Unpacked};
 ghost use Rattle.saved.specs.Walk.{Workspace, At, Goes, Walked, Reached, Places, Stack, Pushed, Dropped, Restarted, Stops};
+
+// The words of the workspace for each state and level: those of two layers, and all of them.
+const FREE_AT: usize = 2 * layer::LAYER_WORDS;
+pub const ALL_WORDS: usize = 24 * labels::COUNTS;
 
 // The most layers that are saved.
 pub const SLOTS: usize = 96;
@@ -40,6 +46,14 @@ fn area(g: Shape) -> usize
     ensures { λ r. ⌜ (r ≡ g .states * g .levels) × (r ≤ 8192) ⌝ }
 {
     g.states * (g.levels as usize)
+}
+
+// How many lists the layer after t readings has.
+fn lists_at(plan: Plan, code: &[u64], g: Shape, t: usize) -> usize
+    requires { ⌜ Checked plan × (ShapeOf plan g × Coded plan (now code)) ⌝ }
+    ensures { λ r. ⌜ (r ≡ usedAt plan t * plan .states) × (r ≤ 8 * counts) ⌝ }
+{
+    labels::counts_at(plan, code, t) * g.states
 }
 
 // The n lists from o on, packed from at on, unless they reach past limit.
@@ -80,8 +94,8 @@ fn unpack(ws: &mut [u64], at: usize, o: usize, n: usize, levels: u64)
 
 // The words that the n lists from o on take when they are packed.
 fn words_of(ws: &[u64], o: usize, n: usize, levels: u64) -> usize
-    requires { ⌜ Row (now ws) o n levels × (o + n * (4 * levels) ≤ 1048576) ⌝ }
-    ensures { λ r. ⌜ r ≤ 65536 ⌝ }
+    requires { ⌜ Row (now ws) o n levels × (o + n * (4 * levels) ≤ placeMost) ⌝ }
+    ensures { λ r. ⌜ r ≤ 8 * counts * 4096 ⌝ }
 {
     let size = 4 * (levels as usize);
     let mut sum = 0;
@@ -138,7 +152,7 @@ fn next_save(a: usize, t: usize, c: usize) -> usize
 
 // How many layers of about these words there is room for: at most the slots. Later layers are taken as a quarter larger.
 fn free_slots(words: usize, free: usize, slots: usize) -> usize
-    requires { ⌜ (words ≤ 65536) × (slots ≤ 96) ⌝ }
+    requires { ⌜ (words ≤ 8 * counts * 4096) × (slots ≤ 96) ⌝ }
     ensures { λ r. ⌜ r ≤ 96 ⌝ }
 {
     let fit = free / (words * 5 / 4 + 1);
@@ -146,13 +160,23 @@ fn free_slots(words: usize, free: usize, slots: usize) -> usize
 }
 
 // How far to go before the next layer is saved.
-fn next_stop(ws: &[u64], g: Shape, walk: Walk, table: &[usize], t: usize) -> usize
-    requires { ⌜ Stops g walk t (now table) (now ws) ⌝ }
+fn next_stop(
+    ws: &[u64],
+    plan: Plan,
+    code: &[u64],
+    g: Shape,
+    walk: Walk,
+    table: &[usize],
+    t: usize,
+) -> usize
+    requires { ⌜ Stops plan g walk t (now table) (now ws) ⌝ }
+    requires { ⌜ Coded plan (now code) ⌝ }
     ensures { λ r. ⌜ (walk .time < r) × (r ≤ t) ⌝ }
 {
     let n = walk.count;
-    let free = 48 * area(g) - table[SLOTS + n];
-    let words = words_of(ws, walk.cur, labels::COUNTS * g.states, g.levels);
+    let free = ALL_WORDS * area(g) - table[SLOTS + n];
+    let lists = lists_at(plan, code, g, walk.time);
+    let words = words_of(ws, walk.cur, lists, g.levels);
     let c = free_slots(words, free, SLOTS - n);
     next_save(walk.time, t, c)
 }
@@ -186,6 +210,7 @@ fn drop_after(table: &[usize], count: usize, t: usize) -> usize
 fn restart(
     ws: &mut [u64],
     plan: Plan,
+    code: &[u64],
     readings: &[i16],
     g: Shape,
     cur: usize,
@@ -194,11 +219,12 @@ fn restart(
     count: usize,
 ) -> Walk
     requires { ⌜ Workspace plan (now readings) g (now ws) × (Places plan cur other × Stack plan (now readings) count (now table) (now ws)) ⌝ }
+    requires { ⌜ Coded plan (now code) ⌝ }
     ensures { λ r. ⌜ Restarted plan (now (readings .entry)) count (now (table .entry)) (now (ws .entry)) (now (ws .exit)) r ⌝ }
 {
     if count == 0 {
-        let free = 16 * area(g);
-        layer::first_layer(ws, plan, readings, cur, free, g);
+        let free = FREE_AT * area(g);
+        layer::first_layer(ws, plan, code, readings, cur, free, g);
         return Walk {
             time: 1,
             cur,
@@ -209,7 +235,8 @@ fn restart(
     let top = count - 1;
     let time = table[top];
     let at = table[SLOTS + top];
-    unpack(ws, at, cur, labels::COUNTS * g.states, g.levels);
+    let lists = lists_at(plan, code, g, time);
+    unpack(ws, at, cur, lists, g.levels);
     Walk {
         time,
         cur,
@@ -232,7 +259,7 @@ fn forward(
     requires { ⌜ Coded plan (now code) ⌝ }
     ensures { λ r. ⌜ Reached plan (now (readings .entry)) x (walk .count) (now (ws .entry)) (now (ws .exit)) r ⌝ }
 {
-    let free = 16 * area(g);
+    let free = FREE_AT * area(g);
     let count = walk.count;
     let mut time = walk.time;
     let mut cur = walk.cur;
@@ -277,8 +304,9 @@ fn go_on(
         return w;
     }
     let at = table[SLOTS + n];
-    let limit = 48 * area(g);
-    let room = pack(ws, w.cur, at, limit, labels::COUNTS * g.states, g.levels);
+    let limit = ALL_WORDS * area(g);
+    let lists = lists_at(plan, code, g, w.time);
+    let room = pack(ws, w.cur, at, limit, lists, g.levels);
     match room {
         Room::Full => w,
         Room::Upto(e) => {
@@ -310,20 +338,28 @@ pub fn advance(
 {
     let mut w = walk;
     while w.time < t {
-        let x = next_stop(ws, g, w, table, t);
+        let x = next_stop(ws, plan, code, g, w, table, t);
         w = go_on(ws, plan, code, readings, g, w, table, x, t);
     }
     w
 }
 
 // The layer after the first reading, with nothing saved.
-pub fn begin(ws: &mut [u64], plan: Plan, readings: &[i16], g: Shape, table: &mut [usize]) -> Walk
+pub fn begin(
+    ws: &mut [u64],
+    plan: Plan,
+    code: &[u64],
+    readings: &[i16],
+    g: Shape,
+    table: &mut [usize],
+) -> Walk
     requires { ⌜ Workspace plan (now readings) g (now ws) × (length (now table) ≡ 193) ⌝ }
+    requires { ⌜ Coded plan (now code) ⌝ }
     ensures { λ r. ⌜ Walked plan (now (readings .entry)) 1 (now (table .exit)) (now (ws .entry)) (now (ws .exit)) r ⌝ }
 {
     let a = area(g);
-    table[SLOTS] = 16 * a + 12 * (g.levels as usize);
-    restart(ws, plan, readings, g, 0, 8 * a, table, 0)
+    table[SLOTS] = FREE_AT * a + layer::FREE_WORDS * (g.levels as usize);
+    restart(ws, plan, code, readings, g, 0, layer::LAYER_WORDS * a, table, 0)
 }
 
 // Back to t: from the last layer saved that is not later, and forward again.
@@ -342,6 +378,6 @@ pub fn rewind(
     ensures { λ r. ⌜ Walked plan (now (readings .entry)) t (now (table .exit)) (now (ws .entry)) (now (ws .exit)) r ⌝ }
 {
     let kept = drop_after(table, walk.count, t);
-    let w = restart(ws, plan, readings, g, walk.cur, walk.other, table, kept);
+    let w = restart(ws, plan, code, readings, g, walk.cur, walk.other, table, kept);
     advance(ws, plan, code, readings, g, w, table, t)
 }

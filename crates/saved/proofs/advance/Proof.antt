@@ -19,35 +19,27 @@ Inv-loop ws₀ plan code readings g table₀ t w₀ ws table w = (w .time ≤ t)
 abbrev μ-loop : tie.MeasureT-loop
 μ-loop ws₀ plan code readings g table₀ t w₀ ws table w = t - w .time
 
--- src/lib.rt:304:5
 loop-holds : tie.Need-loop-holds Inv-loop μ-loop
 loop-holds c = (c .before .before .before .pre .0 .0 .from, (c .before .before .before .pre .0 .0 .at, (c .before .before .before .pre .0 .1, inside-refl _ _ _)))
 
--- src/lib.rt:305:13
 next-stop-requires : tie.Need-next-stop-requires Inv-loop μ-loop
-next-stop-requires c κs = stops (space-then (c .before .before .before .before .before .before .before .before .pre .0 .0 .space) (c .before .before .before .before .loop .inv .1 .1 .1 .size)) (c .before .before .before .before .loop .inv .1 .0) (c .before .before .before .before .loop .inv .1 .1 .0) (c .before .before .if1 .taken) (c .before .before .before .before .before .before .before .before .pre .0 .0 .most)
+next-stop-requires c κs = (stops (space-then (c .before .before .before .before .before .before .before .before .pre .0 .0 .space) (c .before .before .before .before .loop .inv .1 .1 .1 .size)) (c .before .before .before .before .loop .inv .1 .0) (c .before .before .before .before .loop .inv .1 .1 .0) (c .before .before .if1 .taken) (c .before .before .before .before .before .before .before .before .pre .0 .0 .most), c .before .before .before .before .before .before .before .before .pre .1)
 
--- src/lib.rt:306:9
 go-on-requires : tie.Need-go-on-requires Inv-loop μ-loop
 go-on-requires c κs = ((record { space = space-then (c .before .before .before .before .before .before .before .before .before .before .before .pre .0 .0 .space) (c .before .before .before .before .before .before .before .loop .inv .1 .1 .1 .size); at = c .before .before .before .before .before .before .before .loop .inv .1 .0; from = omega (arith, c .before .before .next-stop .ensures .0); most = omega (arith, c .before .before .next-stop .ensures .1, c .before .before .before .before .before .before .before .before .before .before .before .pre .0 .0 .most) }, c .before .before .before .before .before .before .before .loop .inv .1 .1 .0), c .before .before .before .before .before .before .before .before .before .before .before .pre .1)
 
--- src/lib.rt:304:5
 loop-less : tie.Need-loop-less Inv-loop μ-loop
 loop-less c = omega (arith, c .before .before .before .before .before .before .before .before .before .before .if1 .taken, c .before .before .before .before .before .before .before .next-stop .ensures, c .before .before .before .before .go-on .ensures .time)
 
--- src/lib.rt:304:5
 loop-again : tie.Need-loop-again Inv-loop μ-loop
 loop-again c = (omega (arith, c .before .before .before .before .before .before .before .next-stop .ensures, c .before .before .before .before .go-on .ensures .time), (c .before .before .before .before .go-on .ensures .at, (c .before .before .before .before .go-on .ensures .stack, inside-then (c .before .before .before .before .before .before .before .before .before .before .before .before .loop .inv .1 .1 .1) (c .before .before .before .before .go-on .ensures .inside))))
 
--- src/lib.rt:289:1
 same-length : tie.Need-same-length Inv-loop μ-loop
 same-length c = c .before .before .loop .inv .1 .1 .1 .size
 
--- src/lib.rt:289:1
 same-length-2 : tie.Need-same-length-2 Inv-loop μ-loop
 same-length-2 c = c .before .before .loop .inv .1 .1 .0 .size ∙ sym (c .before .before .before .before .before .before .pre .0 .1 .size)
 
--- src/lib.rt:289:1
 returns : tie.Need-returns Inv-loop μ-loop
 returns c = record { at = c .before .before .loop .inv .1 .0; stack = c .before .before .loop .inv .1 .1 .0; time = omega (arith, c .if1 .left, c .before .before .loop .inv .0); inside = c .before .before .loop .inv .1 .1 .1 }
 

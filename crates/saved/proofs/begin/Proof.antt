@@ -1,7 +1,6 @@
--- `saved::begin`: a table with no entry, and the first layer. Assumes nothing.
 use mathlib.Core.Path.{refl}
-use borrow.Author.Needs.{needs}
 use Rattle.saved.proofs.Walks.{restarted-walked, empty-ready}
+use borrow.Author.Needs.{needs}
 use Rattle.saved.proofs.begin.Statement.{statement}
 use Rattle.saved.proofs.begin.Tie as tie
 
@@ -24,7 +23,7 @@ mul-restart : tie.Need-mul-restart
 mul-restart c = search needs
 
 restart-requires : tie.Need-restart-requires
-restart-requires c κs = empty-ready (c .before .before .before .before .before .pre .0) (c .before .before .before .before .before .args .table .now) (c .before .before .area .ensures .0) (c .before .before .before .before .before .pre .1)
+restart-requires c κs = (empty-ready (c .before .before .before .before .before .before .pre .0 .0) (c .before .before .before .before .before .before .args .table .now) (c .before .before .area .ensures .0) (c .before .before .before .before .before .before .pre .0 .1), c .before .before .before .before .before .before .pre .1)
 
 same-length : tie.Need-same-length
 same-length c = search needs
@@ -33,7 +32,7 @@ same-length-2 : tie.Need-same-length-2
 same-length-2 c = search needs
 
 returns : tie.Need-returns
-returns c = let a = empty-ready (c .before .before .before .before .before .before .before .before .pre .0) (c .before .before .before .before .before .before .before .before .args .table .now) (c .before .before .before .before .before .area .ensures .0) (c .before .before .before .before .before .before .before .before .pre .1) in
+returns c = let a = empty-ready (c .before .before .before .before .before .before .before .before .before .pre .0 .0) (c .before .before .before .before .before .before .before .before .before .args .table .now) (c .before .before .before .before .before .area .ensures .0) (c .before .before .before .before .before .before .before .before .before .pre .0 .1) in
     restarted-walked (a .0) (a .1 .1) (c .before .before .restart .ensures) (c .before .before .restart .ensures .first refl)
 
 pub begin-spec : {M : Type 1} → statement M

@@ -38,7 +38,7 @@ next-layer-requires c κs = (step-ready (space-then (c .before .before .before .
 
 -- src/lib.rt:237:9
 add-time : tie.Need-add-time Inv-loop μ-loop
-add-time c = omega (arith, c .before .before .before .before .loop-test .taken, c .before .before .before .before .before .before .before .before .before .pre .0 .most, c .before .before .before .before .before .before .before .before .before .pre .0 .space .task .most)
+add-time c = omega (arith, c .before .before .before .before .loop-test .taken, c .before .before .before .before .before .before .before .before .before .pre .0 .most, c .before .before .before .before .before .before .before .before .before .pre .0 .space .task .ready .few-readings)
 
 -- src/lib.rt:232:5
 loop-less : tie.Need-loop-less Inv-loop μ-loop

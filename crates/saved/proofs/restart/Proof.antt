@@ -1,7 +1,7 @@
--- `saved::restart`: the first layer, or the top entry unpacked. Assumes nothing.
+use Rattle.saved.proofs.lists_at.Reads as lists-at-reads
 use native.Mathlib.Omega.{arith}
-use borrow.Author.Needs.{needs}
 use Rattle.saved.proofs.Walks.{start-ready, restarted-first, unpack-ready, restarted-top}
+use borrow.Author.Needs.{needs}
 use Rattle.saved.proofs.restart.Statement.{statement}
 use Rattle.saved.proofs.restart.Tie as tie
 
@@ -12,13 +12,13 @@ mul-free : tie.Need-mul-free
 mul-free c = search needs
 
 first-layer-requires : tie.Need-first-layer-requires
-first-layer-requires c κs = start-ready (c .before .before .before .before .before .pre .0) (c .before .before .before .before .before .pre .1 .0) (c .before .area .ensures .0)
+first-layer-requires c κs = (start-ready (c .before .before .before .before .before .before .pre .0 .0) (c .before .before .before .before .before .before .pre .0 .1 .0) (c .before .area .ensures .0), c .before .before .before .before .before .before .pre .1)
 
 same-length : tie.Need-same-length
 same-length c = search needs
 
 returns : tie.Need-returns
-returns c = restarted-first (c .before .before .before .before .before .before .before .before .pre .0) (c .before .before .before .before .before .before .before .before .pre .1 .0) (c .before .before .before .before .area .ensures .0) (c .before .before .before .before .before .if1 .taken) (c .before .before .first-layer .ensures)
+returns c = restarted-first (c .before .before .before .before .before .before .before .before .before .pre .0 .0) (c .before .before .before .before .before .before .before .before .before .pre .0 .1 .0) (c .before .before .before .before .area .ensures .0) (c .before .before .before .before .before .if1 .taken) (c .before .before .first-layer .ensures)
 
 sub-top : tie.Need-sub-top
 sub-top c = search needs
@@ -38,17 +38,17 @@ mul-at c = search needs
 shared-slice-read-at : tie.Need-shared-slice-read-at
 shared-slice-read-at c = search needs
 
-mul-unpack : tie.Need-mul-unpack
-mul-unpack c = search needs
+lists-at-requires : tie.Need-lists-at-requires
+lists-at-requires c κs = search needs
 
 unpack-requires : tie.Need-unpack-requires
-unpack-requires c κs = unpack-ready (c .before .before .before .before .before .before .before .pre .0) (c .before .before .before .before .before .before .before .pre .1 .0) (c .before .before .before .before .before .before .before .pre .1 .1) (omega (arith, c .before .before .before .before .if1 .left))
+unpack-requires c κs = unpack-ready (c .before .before .before .before .before .before .before .before .pre .0 .0) (c .before .before .before .before .before .before .before .before .pre .0 .1 .0) (c .before .before .before .before .before .before .before .before .pre .0 .1 .1) (omega (arith, c .before .before .before .before .if1 .left)) (c .before .lists-at .ensures .0)
 
 same-length-2 : tie.Need-same-length-2
 same-length-2 c = search needs
 
 returns-2 : tie.Need-returns-2
-returns-2 c = restarted-top (c .before .before .before .before .before .before .before .before .before .before .pre .0) (c .before .before .before .before .before .before .before .before .before .before .pre .1 .0) (c .before .before .before .before .before .before .before .before .before .before .pre .1 .1) (omega (arith, c .before .before .before .before .before .before .before .if1 .left)) (c .before .before .unpack .ensures)
+returns-2 c = restarted-top (c .before .before .before .before .before .before .before .before .before .before .before .pre .0 .0) (c .before .before .before .before .before .before .before .before .before .before .before .pre .0 .1 .0) (c .before .before .before .before .before .before .before .before .before .before .before .pre .0 .1 .1) (omega (arith, c .before .before .before .before .before .before .before .if1 .left)) (c .before .before .before .before .lists-at .ensures .0) (c .before .before .unpack .ensures)
 
 pub restart-spec : {M : Type 1} → statement M
 restart-spec =
@@ -65,7 +65,7 @@ restart-spec =
     add-at
     mul-at
     shared-slice-read-at
-    mul-unpack
+    lists-at-requires
     unpack-requires
     same-length-2
     returns-2)

@@ -11,15 +11,12 @@ use Rattle.saved.proofs.advance.Reads as advance-reads
 use Rattle.saved.proofs.drop_after.Reads as drop-after-reads
 use Rattle.saved.proofs.restart.Reads as restart-reads
 
--- src/lib.rt:336:9
 drop-after-requires : tie.Need-drop-after-requires
 drop-after-requires c κs = search needs
 
--- src/lib.rt:337:9
 restart-requires : tie.Need-restart-requires
-restart-requires c κs = (c .before .before .before .before .before .before .before .pre .0 .0, (c .before .before .before .before .before .before .before .pre .0 .1 .0 .places, stack-dropped (c .before .before .before .before .before .before .before .pre .0 .1 .1 .0) (c .before .before .drop-after .ensures)))
+restart-requires c κs = ((c .before .before .before .before .before .before .before .pre .0 .0, (c .before .before .before .before .before .before .before .pre .0 .1 .0 .places, stack-dropped (c .before .before .before .before .before .before .before .pre .0 .1 .1 .0) (c .before .before .drop-after .ensures))), c .before .before .before .before .before .before .before .pre .1)
 
--- src/lib.rt:338:5
 advance-requires : tie.Need-advance-requires
 advance-requires c κs = (
   let m = restarted-walked (c .before .before .before .before .before .before .before .before .before .before .before .before .pre .0 .0) (stack-dropped (c .before .before .before .before .before .before .before .before .before .before .before .before .pre .0 .1 .1 .0) (c .before .before .before .before .before .before .before .drop-after .ensures)) (c .before .before .before .before .restart .ensures) refl in (
@@ -34,15 +31,12 @@ advance-requires c κs = (
   c .before .before .before .before .before .before .before .before .before .before .before .before .pre .1,
 )
 
--- src/lib.rt:322:1
 same-length : tie.Need-same-length
 same-length c = search needs
 
--- src/lib.rt:322:1
 same-length-2 : tie.Need-same-length-2
 same-length-2 c = search needs
 
--- src/lib.rt:322:1
 returns : tie.Need-returns
 returns c = walked-then (restarted-walked (c .before .before .before .before .before .before .before .before .before .before .before .before .before .before .before .before .before .pre .0 .0) (stack-dropped (c .before .before .before .before .before .before .before .before .before .before .before .before .before .before .before .before .before .pre .0 .1 .1 .0) (c .before .before .before .before .before .before .before .before .before .before .before .before .drop-after .ensures)) (c .before .before .before .before .before .before .before .before .before .restart .ensures) refl) (c .before .before .before .before .advance .ensures)
 
