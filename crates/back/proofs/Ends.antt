@@ -8,7 +8,6 @@ use native.Mathlib.Omega.{arith}
 use lib.ListN.{length}
 use Rattle.plan.specs.declared.Plan.{Plan}
 use Rattle.model.specs.Model.{width, inSet}
-use Rattle.model.specs.Labels.{counts}
 use Rattle.model.specs.Index.{noCost}
 use Rattle.model.specs.Held.{Table, minBelow}
 use Rattle.model.specs.Ends.{pointAt}
@@ -23,7 +22,7 @@ use Rattle.layer.specs.Layer.{listAt, ShapeOf}
 use Rattle.back.specs.Read.{Readable, Reads, min-one-more, min-none-yet}
 use Rattle.layer.proofs.Next.{min-ext}
 
-module _ {cur : ℕ} {g : Shape} {ws : List ℕ} (a : Readable cur g ws) (k s : ℕ) (hk : k < counts) (hs : s < g .states) (f : ℕ) (ef : f ≡ listAt cur (g .states) (g .levels) k s) where
+module _ {n cur : ℕ} {g : Shape} {ws : List ℕ} (a : Readable n cur g ws) (k s : ℕ) (hk : k < n) (hs : s < g .states) (f : ℕ) (ef : f ≡ listAt cur (g .states) (g .levels) k s) where
   pub held : Held ws f (g .levels)
   held = subst (λ (o : ℕ). Held ws o (g .levels)) (sym ef) (a .list k s hk hs .held)
 
@@ -33,7 +32,7 @@ module _ {cur : ℕ} {g : Shape} {ws : List ℕ} (a : Readable cur g ws) (k s : 
   pub sound : Sound 18014398509481984 (g .base) (g .levels) ws f
   sound = subst (λ (o : ℕ). Sound 18014398509481984 (g .base) (g .levels) ws o) (sym ef) (a .list k s hk hs)
 
-  module _ {H : Table} (r : Reads cur g ws H) where
+  module _ {H : Table} (r : Reads n cur g ws H) where
     cost-is : (j : ℕ) → j < g .levels → costs (g .base) (piece ws f (g .levels)) j ≡ H k s j
     cost-is j h = ap (λ (o : ℕ). costs (g .base) (piece ws o (g .levels)) j) ef ∙ r .at k s j hk hs h
 
@@ -70,7 +69,7 @@ pub point-more : (cur : ℕ) (g : Shape) (ws : List ℕ) (s j n best f v r : ℕ
 point-more cur g ws s j n best f v r eb ef ev er =
     er ∙ ap (λ (x : ℕ). min x v) eb ∙ ap (min (pointTo cur g ws s j n)) (ev ∙ ap (λ (o : ℕ). costs (g .base) (piece ws o (g .levels)) j) ef) ∙ sym (min-one-more n _)
 
-pub point-all : {cur : ℕ} {g : Shape} {ws : List ℕ} {H : Table} (s j n best : ℕ) → Reads cur g ws H → s < g .states → j < g .levels → n ≡ counts → best ≡ pointTo cur g ws s j n → best ≡ pointAt H s j
+pub point-all : {n cur : ℕ} {g : Shape} {ws : List ℕ} {H : Table} (s j m best : ℕ) → Reads n cur g ws H → s < g .states → j < g .levels → m ≡ n → best ≡ pointTo cur g ws s j m → best ≡ pointAt n H s j
 unfolding pointAt
-point-all {cur} {g} {ws} {H} s j n best r hs hj e b =
-    b ∙ ap (pointTo cur g ws s j) e ∙ min-ext counts _ _ (λ k hk. r .at k s j hk hs hj)
+point-all {n} {cur} {g} {ws} {H} s j m best r hs hj e b =
+    b ∙ ap (pointTo cur g ws s j) e ∙ min-ext n _ _ (λ k hk. r .at k s j hk hs hj)

@@ -13,10 +13,10 @@ use Rattle.plan.specs.declared.Plan.{Plan}
 use Rattle.plan.specs.declared.Edge.{Edge}
 use Rattle.plan.specs.declared.Label.{Label}
 use Rattle.model.specs.Model.{width, edgeAt, penalty, penaltyOf}
-use Rattle.model.specs.Labels.{labelOn, counts, countBefore}
+use Rattle.model.specs.Labels.{labelOn, used, countBefore}
 use Rattle.model.specs.Index.{noCost, Permitted, edgeMin}
 use Rattle.model.specs.Held.{Table, fromCount, leadsAt, edgeLeast}
-use Rattle.labels.specs.Boundary.{leadsFrom, leads-at}
+use Rattle.labels.specs.Boundary.{leadsFrom, leads-at, leads-from-used}
 use Rattle.curve.specs.declared.Low.{Low}
 use Rattle.curve.specs.Pieces.{piece}
 use Rattle.curve.specs.Lows.{costs}
@@ -73,16 +73,15 @@ module _ {P : Plan} {o : Option Label} {t k s j : ℕ} {g : Shape} (a : BackRead
     index = omega (arith, a .index, a .shape .levels);
     from = omega (arith, a .checked .edge e h .from-below, a .shape .states);
     gap = a .checked .edge e h .gap-low;
-    before = λ l. rw (count-is e) (a .before e (sym (led e) ∙ l));
   }
 
-  module _ {cur : ℕ} {ws : List ℕ} {H : Table} (r : Reads cur g ws H) (want e : ℕ) (h : e < P .edgecount) (low : Low) (f : Offers o t (edgeAt P e) k s j cur g ws low) where
+  module _ {cur : ℕ} {ws : List ℕ} {H : Table} (r : Reads (used o) cur g ws H) (want e : ℕ) (h : e < P .edgecount) (low : Low) (f : Offers o t (edgeAt P e) k s j cur g ws low) where
     -- what the list costs that the edge comes from
     here : leadsAt P t e k s ≡ true → LeastOf (λ (i : ℕ). Permitted (edgeAt P e .kind) i j) (width P) (H (fromCount P t e k) (edgeAt P e .from)) low
     here l =
         let m = f .on (led e ∙ l) in
-        let c = a .before e l in
-        let q = least-same (λ i hi. r .at (countBefore o t (edgeAt P e .kind) k) (edgeAt P e .from) i (rw (count-is e) c) (omega (arith, a .checked .edge e h .from-below, a .shape .states)) hi) m in
+        let c = leads-from-used o t (edgeAt P e) k s (led e ∙ l) in
+        let q = least-same (λ i hi. r .at (countBefore o t (edgeAt P e .kind) k) (edgeAt P e .from) i c (omega (arith, a .checked .edge e h .from-below, a .shape .states)) hi) m in
         subst (λ (n : ℕ). LeastOf (λ (i : ℕ). Permitted (edgeAt P e .kind) i j) n (H (fromCount P t e k) (edgeAt P e .from)) low) (a .shape .levels)
         (subst (λ (n : ℕ). LeastOf (λ (i : ℕ). Permitted (edgeAt P e .kind) i j) (g .levels) (H n (edgeAt P e .from)) low) (count-is e) q)
 

@@ -11,7 +11,7 @@ use lib.ListN.{length}
 use Rattle.integers.specs.Rep.{le-or-lt}
 use Rattle.plan.specs.declared.Plan.{Plan}
 use Rattle.model.specs.Model.{width, inSet}
-use Rattle.model.specs.Labels.{counts}
+use Rattle.model.specs.Labels.{counts, usedAt, used-most}
 use Rattle.model.specs.Least.{Upto}
 use Rattle.model.specs.Index.{noCost}
 use Rattle.model.specs.Held.{Table, minBelow, min-none, penaltyMost}
@@ -22,7 +22,7 @@ use Rattle.curve.specs.Lows.{costs, Least, LeastIn}
 use Rattle.curve.specs.Curve.{Curve, Limits, curve-costs, curve-wider, curve-most}
 use Rattle.edges.specs.Edge.{Sound}
 use Rattle.layer.specs.declared.Shape.{Shape}
-use Rattle.layer.specs.Layer.{stepMost, baseOf, listAt, Shape-small, ShapeOf, Layer}
+use Rattle.layer.specs.Layer.{stepMost, baseOf, placeMost, listAt, Shape-small, ShapeOf, Layer}
 use Rattle.layer.specs.Next.{Task}
 use Rattle.layer.proofs.Next.{to-shape, limits, shape-small, some-levels, list-is}
 use Rattle.back.specs.declared.End.{End}
@@ -30,17 +30,18 @@ use Rattle.back.specs.declared.End.{End}
 abbrev pub lesserOf : ℕ → ℕ → ℕ
 lesserOf a b = min a b
 
--- the lists of the layer at cur may be read
-pub record Readable (cur : ℕ) (g : Shape) (ws : List ℕ) : Type 0 where
+-- the lists of the first n counts of the layer at cur may be read
+pub record Readable (n cur : ℕ) (g : Shape) (ws : List ℕ) : Type 0 where
+  pub few : n ≤ counts
   pub small : Shape-small g
   pub some : 0 < g .levels
-  pub place : cur ≤ 1048576
+  pub place : cur ≤ placeMost
   pub bounds : Limits 1048576 18014398509481984 (g .base) (g .levels)
-  pub list : (k s : ℕ) → k < counts → s < g .states → Sound 18014398509481984 (g .base) (g .levels) ws (listAt cur (g .states) (g .levels) k s)
+  pub list : (k s : ℕ) → k < n → s < g .states → Sound 18014398509481984 (g .base) (g .levels) ws (listAt cur (g .states) (g .levels) k s)
 
 -- and they cost H
-pub record Reads (cur : ℕ) (g : Shape) (ws : List ℕ) (H : Table) : Type 0 where
-  pub at : (k s j : ℕ) → k < counts → s < g .states → j < g .levels → costs (g .base) (piece ws (listAt cur (g .states) (g .levels) k s) (g .levels)) j ≡ H k s j
+pub record Reads (n cur : ℕ) (g : Shape) (ws : List ℕ) (H : Table) : Type 0 where
+  pub at : (k s j : ℕ) → k < n → s < g .states → j < g .levels → costs (g .base) (piece ws (listAt cur (g .states) (g .levels) k s) (g .levels)) j ≡ H k s j
 
 -- the least over the ends in the states below n
 abbrev pub endsBelow : Plan → Table → ℕ → ℕ
@@ -53,6 +54,7 @@ pub record EndTo (P : Plan) (H : Table) (n : ℕ) (r : End) : Type 0 where
   pub level : r .value < noCost → r .level < width P
   pub met : r .value < noCost → endAt P H (r .state) (r .level) ≡ r .value
   pub lowest : r .value < noCost → (s j : ℕ) → s < n → j < width P → endAt P H s j ≡ r .value → Upto (r .state) (r .level) s j
+  pub nowhere : noCost ≤ r .value → (r .state ≡ 0) × (r .level ≡ 0)
 
 -- ---- the model's least
 
@@ -95,6 +97,7 @@ module _ {P : Plan} {H : Table} {s : ℕ} {best : End} (a : EndTo P H s best) wh
         level = a .level;
         met = a .met;
         lowest = λ h s′ j′ hs hj q. ⊎-elim (λ p. inl (omega (arith, a .state h))) (λ p. a .lowest h s′ j′ p hj q) (le-or-lt s s′);
+        nowhere = a .nowhere;
       }
 
   module _ (e : inSet (P .end) s ≡ true) (low : Low) (l : Least (H 0 s) 0 (width P - 1) low) (most : low .value ≤ noCost) where
@@ -127,6 +130,7 @@ module _ {P : Plan} {H : Table} {s : ℕ} {best : End} (a : EndTo P H s best) wh
           (λ p. let z : s′ ≡ s = omega arith in inr (sym z, later j′ hj (ap (λ (x : ℕ). endAt P H x j′) (sym z) ∙ q)))
           (λ p. absurd (omega (arith, a .is, q, min-least s (λ (s : ℕ). minBelow (width P) (λ (j : ℕ). endAt P H s j)) s′ p, min-least (width P) (λ (j : ℕ). endAt P H s′ j) j′ hj)))
           (le-or-lt s s′);
+      nowhere = λ k. absurd (omega (arith, a .is, min-none s (λ (s : ℕ). minBelow (width P) (λ (j : ℕ). endAt P H s j))));
     }
       where
         later : (j : ℕ) → j < width P → endAt P H s j ≡ low .value → low .level ≤ j
@@ -140,6 +144,7 @@ module _ {P : Plan} {H : Table} {s : ℕ} {best : End} (a : EndTo P H s best) wh
       level = a .level;
       met = a .met;
       lowest = λ k s′ j′ hs hj q. ⊎-elim (λ p. inl (omega (arith, a .state k))) (λ p. a .lowest k s′ j′ p hj q) (le-or-lt s s′);
+      nowhere = a .nowhere;
     }
 
 pub end-none : (P : Plan) (H : Table) → EndTo P H 0 (record { value = 1152921504606846976; state = 0; level = 0 })
@@ -150,6 +155,7 @@ end-none P H = record {
   level = λ h. absurd (omega arith);
   met = λ h. absurd (omega arith);
   lowest = λ h s j hs hj q. absurd (omega arith);
+  nowhere = λ h. (refl, refl);
 }
 
 pub end-all : {P : Plan} {H : Table} {n m : ℕ} {r : End} → n ≡ m → EndTo P H n r → EndTo P H m r
@@ -158,17 +164,26 @@ end-all {P} {H} {n} {m} {r} e a = subst (λ (x : ℕ). EndTo P H x r) e a
 -- ---- a layer of the search may be read
 
 module _ {P : Plan} {zs : List ℤ} {g : Shape} (a : Task P zs g) {t cur : ℕ} {ws : List ℕ} (l : Layer P zs t ws cur) where
-  list-here : (k s : ℕ) → k < counts → s < g .states → Curve t (t * stepMost) (g .base) (g .levels) ws (listAt cur (g .states) (g .levels) k s) (tableAt P zs t k s)
+  list-here : (k s : ℕ) → k < usedAt P t → s < g .states → Curve t (t * stepMost) (g .base) (g .levels) ws (listAt cur (g .states) (g .levels) k s) (tableAt P zs t k s)
   list-here k s hk hs = to-shape (a .shape) (rw (a .shape .states, a .shape .levels) (l .list k s hk (omega (arith, a .shape .states))))
 
-  pub layer-reads : Reads cur g ws (tableAt P zs t)
+  pub layer-reads : Reads (usedAt P t) cur g ws (tableAt P zs t)
   layer-reads = record { at = λ k s j hk hs hj. list-here k s hk hs .at j hj .is }
 
-  pub layer-readable : cur ≤ 1048576 → t ≤ 4096 → Readable cur g ws
+  pub layer-readable : cur ≤ placeMost → t ≤ 4096 → Readable (usedAt P t) cur g ws
   layer-readable h few = record {
+    few = used-most P (a .ready .plan) t;
     small = shape-small a;
     some = some-levels a;
     place = h;
     bounds = limits a 1048576 18014398509481984 (omega arith) (omega arith);
     list = λ k s hk hs. curve-costs (curve-wider 1048576 18014398509481984 (omega arith) (omega (arith, mul-le-mul-right stepMost few)) (list-here k s hk hs));
   }
+
+-- fewer counts of it
+module _ {m n cur : ℕ} {g : Shape} {ws : List ℕ} (h : m ≤ n) where
+  pub readable-fewer : Readable n cur g ws → Readable m cur g ws
+  readable-fewer a = record { few = omega (arith, a .few); small = a .small; some = a .some; place = a .place; bounds = a .bounds; list = λ k s hk. a .list k s (omega arith) }
+
+  pub reads-fewer : {H : Table} → Reads n cur g ws H → Reads m cur g ws H
+  reads-fewer r = record { at = λ k s j hk. r .at k s j (omega arith) }

@@ -10,7 +10,7 @@ use Rattle.plan.specs.declared.Edge.{Edge}
 use Rattle.plan.specs.declared.Label.{Label}
 use Rattle.plan.specs.Build.{gapOf}
 use Rattle.model.specs.Model.{width, edgeAt, penaltyOf}
-use Rattle.model.specs.Labels.{labelOn, counts, countBefore}
+use Rattle.model.specs.Labels.{labelOn, counts}
 use Rattle.model.specs.Checked.{Checked}
 use Rattle.model.specs.Index.{noCost, Permitted}
 use Rattle.model.specs.Held.{Table, fromCount, leadsAt, edgeLeast}
@@ -35,7 +35,6 @@ pub record MayOffer (o : Option Label) (t : ℕ) (x : Edge) (k s j : ℕ) (g : S
   pub index : j < g .levels
   pub from : x .from < g .states
   pub gap : gapOf (x .kind) ≤ 1023
-  pub before : leadsFrom o t x k s ≡ true → countBefore o t (x .kind) k < counts
 
 pub record Offers (o : Option Label) (t : ℕ) (x : Edge) (k s j cur : ℕ) (g : Shape) (ws : List ℕ) (r : Low) : Type 0 where
   pub off : leadsFrom o t x k s ≡ false → noCost ≤ r .value
@@ -48,7 +47,6 @@ pub record BackReady (P : Plan) (o : Option Label) (t k s j : ℕ) (g : Shape) :
   pub boundary : t ≤ 4096
   pub count : k < counts
   pub index : j < width P
-  pub before : (e : ℕ) → leadsAt P t e k s ≡ true → fromCount P t e k < counts
 
 -- the edge leads here, and its least over the permitted levels with its penalty is the wanted cost
 abbrev pub Meets : Plan → ℕ → Table → ℕ → ℕ → ℕ → ℕ → ℕ → Type 0

@@ -9,6 +9,7 @@ ghost use mathlib.Core.Path.{_≡_};
 ghost use Prim.Native.Nat.{ℕ, _+_, _*_, _≤_, _<_};
 ghost use Rattle.model.specs.Held.{Table};
 ghost use Rattle.model.specs.Ends.{pointAt};
+ghost use Rattle.model.specs.Labels.{used};
 ghost use Rattle.layer.specs.Layer.{ShapeOf};
 ghost use Rattle.coded.specs.Coded.{Coded};
 ghost use Rattle.labels.specs.Boundary.{labelOf};
@@ -24,8 +25,8 @@ pub struct End {
 
 // The better of the best end so far and the best of state s, which comes later.
 fn better_end(ws: &[u64], plan: Plan, cur: usize, g: Shape, s: usize, best: End) -> End
-    requires { ⌜ Readable cur g (now ws) × (ShapeOf plan g × (s < plan .states)) ⌝ }
-    ensures { λ r. ⌜ ((H : Table) → Reads cur g (now (ws .entry)) H → EndTo plan H s best → EndTo plan H (s + 1) r) ⌝ }
+    requires { ⌜ Readable 1 cur g (now ws) × (ShapeOf plan g × (s < plan .states)) ⌝ }
+    ensures { λ r. ⌜ ((H : Table) → Reads 1 cur g (now (ws .entry)) H → EndTo plan H s best → EndTo plan H (s + 1) r) ⌝ }
 {
     if !layer::in_set(plan.end, s) {
         return best;
@@ -44,10 +45,11 @@ fn better_end(ws: &[u64], plan: Plan, cur: usize, g: Shape, s: usize, best: End)
     }
 }
 
-// The cheapest end in the end set: lowest state, then lowest level. None where there is none.
+// The cheapest end in the end set: lowest state, then lowest level. None, state 0 and level 0 where there is none. No label is open at the end, so the
+// lists of count 0 are all that is read.
 pub fn best_end(ws: &[u64], plan: Plan, cur: usize, g: Shape) -> End
-    requires { ⌜ Readable cur g (now ws) × ShapeOf plan g ⌝ }
-    ensures { λ r. ⌜ ((H : Table) → Reads cur g (now (ws .entry)) H → EndTo plan H (plan .states) r) ⌝ }
+    requires { ⌜ Readable 1 cur g (now ws) × ShapeOf plan g ⌝ }
+    ensures { λ r. ⌜ ((H : Table) → Reads 1 cur g (now (ws .entry)) H → EndTo plan H (plan .states) r) ⌝ }
 {
     let states = g.states;
     let mut best = End {
@@ -69,14 +71,14 @@ fn lesser(a: u64, b: u64) -> u64
     if b < a { b } else { a }
 }
 
-// The least over the counts of what ends in state s at the level with index j.
-pub fn point_cost(ws: &[u64], cur: usize, g: Shape, s: usize, j: u64) -> u64
-    requires { ⌜ Readable cur g (now ws) × ((s < g .states) × (j < g .levels)) ⌝ }
-    ensures { λ r. ⌜ ((H : Table) → Reads cur g (now (ws .entry)) H → r ≡ pointAt H s j) ⌝ }
+// The least over the first n counts of what ends in state s at the level with index j.
+pub fn point_cost(ws: &[u64], cur: usize, g: Shape, n: usize, s: usize, j: u64) -> u64
+    requires { ⌜ Readable n cur g (now ws) × ((s < g .states) × (j < g .levels)) ⌝ }
+    ensures { λ r. ⌜ ((H : Table) → Reads n cur g (now (ws .entry)) H → r ≡ pointAt n H s j) ⌝ }
 {
     let mut best = quadratic::NONE;
     let mut k = 0;
-    while k < labels::COUNTS {
+    while k < n {
         let f = layer::list_at(cur, g, k, s);
         best = lesser(best, curve::value_at(ws, f, j, g.levels, g.base));
         k += 1;
@@ -96,7 +98,7 @@ fn offer_of(
     j: u64,
     g: Shape,
 ) -> Low
-    requires { ⌜ Readable cur g (now ws) × MayOffer (labelOf on) t e k s j g ⌝ }
+    requires { ⌜ Readable (used (labelOf on)) cur g (now ws) × MayOffer (labelOf on) t e k s j g ⌝ }
     ensures { λ r. ⌜ Offers (labelOf on) t e k s j cur g (now (ws .entry)) r ⌝ }
 {
     if !labels::leads(on, t, e, k, s) {
@@ -144,8 +146,8 @@ pub fn step_back(
     want: u64,
     g: Shape,
 ) -> Back
-    requires { ⌜ Readable cur g (now ws) × (BackReady plan (labelOf on) t k s j g × Coded plan (now code)) ⌝ }
-    ensures { λ r. ⌜ ((H : Table) → Reads cur g (now (ws .entry)) H → StepTo plan t H k s j want r) ⌝ }
+    requires { ⌜ Readable (used (labelOf on)) cur g (now ws) × (BackReady plan (labelOf on) t k s j g × Coded plan (now code)) ⌝ }
+    ensures { λ r. ⌜ ((H : Table) → Reads (used (labelOf on)) cur g (now (ws .entry)) H → StepTo plan t H k s j want r) ⌝ }
 {
     let n = plan.edgecount;
     let mut i = 0;

@@ -11,36 +11,38 @@ use Rattle.back.proofs.best_end.Lts as lts
 use Rattle.back.proofs.better_end.Reads as better-end-reads
 
 abbrev Inv-loop : tie.InvT-loop
-Inv-loop ws plan cur g states best₀ s₀ best s = (s ≤ plan .states) × ((H : Table) → Reads cur g ws H → EndTo plan H s best)
+Inv-loop ws plan cur g states best₀ s₀ best s = (s ≤ plan .states) × ((H : Table) → Reads 1 cur g ws H → EndTo plan H s best)
 
 abbrev μ-loop : tie.MeasureT-loop
 μ-loop ws plan cur g states best₀ s₀ best s = states - s
 
--- src/lib.rt:55:5
 loop-holds : tie.Need-loop-holds Inv-loop μ-loop
 loop-holds c = (omega arith, λ H r. end-none _ H)
 
--- src/lib.rt:56:9
 better-end-requires : tie.Need-better-end-requires Inv-loop μ-loop
 better-end-requires c κs = (c .before .before .before .pre .0, (c .before .before .before .pre .1, omega (arith, c .loop-test .taken, c .before .before .before .pre .1 .states)))
 
--- src/lib.rt:57:9
 add-s : tie.Need-add-s Inv-loop μ-loop
 add-s c = omega (arith, c .before .loop-test .taken)
 
--- src/lib.rt:55:5
 loop-less : tie.Need-loop-less Inv-loop μ-loop
 loop-less c = omega (arith, c .before .loop-test .taken)
 
--- src/lib.rt:55:5
 loop-again : tie.Need-loop-again Inv-loop μ-loop
 loop-again c = (omega (arith, c .before .loop-test .taken, c .before .before .before .before .pre .1 .states), λ H r. c .better-end .ensures H r (c .before .before .loop .inv .1 H r))
 
--- src/lib.rt:44:1
 returns : tie.Need-returns Inv-loop μ-loop
 returns c = λ H r. end-all (omega (arith, c .loop-test .left, c .before .loop .inv .0, c .before .before .before .pre .1 .states)) (c .before .loop .inv .1 H r)
 
 pub best-end-spec : {M : Type 1} → statement M
 best-end-spec =
     tie.close
-    (tie.spec Inv-loop μ-loop loop-holds better-end-requires add-s loop-less loop-again returns)
+    (tie.spec
+    Inv-loop
+    μ-loop
+    loop-holds
+    better-end-requires
+    add-s
+    loop-less
+    loop-again
+    returns)

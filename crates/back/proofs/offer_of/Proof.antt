@@ -1,3 +1,4 @@
+use Rattle.labels.specs.Boundary.{leads-from-used}
 use Rattle.back.proofs.Steps.{offers-none, offers-some}
 use Rattle.back.proofs.Ends.{sound}
 use Rattle.layer.proofs.Took.{source-is}
@@ -15,31 +16,24 @@ use Rattle.labels.proofs.leads.Reads as leads-reads
 use Rattle.edges.proofs.least_before.Reads as least-before-reads
 use Rattle.layer.proofs.list_at.Reads as list-at-reads
 
--- src/lib.rt:101:9
 leads-requires : tie.Need-leads-requires
 leads-requires c κs = (c .before .pre .1 .boundary, omega (arith, c .before .pre .1 .count))
 
--- src/lib.rt:102:9
 returns : tie.Need-returns
 returns c = offers-none _ _ _ _ _ _ _ _ _ _ (sym (c .before .leads .ensures) ∙ not-true _ (c .if1 .taken)) (omega arith)
 
--- src/lib.rt:108:9
 count-before-requires : tie.Need-count-before-requires
 count-before-requires c κs = (c .before .before .before .pre .1 .boundary, omega (arith, c .before .before .before .pre .1 .count))
 
--- src/lib.rt:109:45
 cast-list-at : tie.Need-cast-list-at
 cast-list-at c = search needs
 
--- src/lib.rt:109:9
 list-at-requires : tie.Need-list-at-requires
-list-at-requires c κs = (c .before .before .before .before .before .pre .0 .small, (c .before .before .before .before .before .pre .0 .place, (omega (arith, c .before .count-before .ensures .0, c .before .before .before .before .before .pre .1 .before (sym (c .before .before .before .leads .ensures) ∙ not-false _ (c .before .before .if1 .left))), omega (arith, c .before .before .before .before .before .pre .1 .from, c .before .before .before .before .before .pre .0 .small .states))))
+list-at-requires c κs = (c .before .before .before .before .before .pre .0 .small, (c .before .before .before .before .before .pre .0 .place, (omega (arith, c .before .count-before .ensures .0, c .before .before .before .before .before .pre .0 .few, leads-from-used _ _ (c .before .before .before .before .before .args .e) _ _ (sym (c .before .before .before .leads .ensures) ∙ not-false _ (c .before .before .if1 .left))), omega (arith, c .before .before .before .before .before .pre .1 .from, c .before .before .before .before .before .pre .0 .small .states))))
 
--- src/lib.rt:110:5
 least-before-requires : tie.Need-least-before-requires
-least-before-requires c κs = ((c .before .before .before .before .before .before .pre .0 .bounds, sound (c .before .before .before .before .before .before .pre .0) _ _ (omega (arith, c .before .before .count-before .ensures .0, c .before .before .before .before .before .before .pre .1 .before (sym (c .before .before .before .before .leads .ensures) ∙ not-false _ (c .before .before .before .if1 .left)))) (c .before .before .before .before .before .before .pre .1 .from) _ (c .list-at .ensures)), (c .before .before .before .before .before .before .pre .1 .index, c .before .before .before .before .before .before .pre .1 .gap))
+least-before-requires c κs = ((c .before .before .before .before .before .before .pre .0 .bounds, sound (c .before .before .before .before .before .before .pre .0) _ _ (omega (arith, c .before .before .count-before .ensures .0, leads-from-used _ _ (c .before .before .before .before .before .before .args .e) _ _ (sym (c .before .before .before .before .leads .ensures) ∙ not-false _ (c .before .before .before .if1 .left)))) (c .before .before .before .before .before .before .pre .1 .from) _ (c .list-at .ensures)), (c .before .before .before .before .before .before .pre .1 .index, c .before .before .before .before .before .before .pre .1 .gap))
 
--- src/lib.rt:87:1
 returns-2 : tie.Need-returns-2
 returns-2 c = offers-some _ _ (c .before .before .before .before .before .before .before .args .e) _ _ _ _ (c .before .before .before .before .before .before .before .args .g) _ _ _ (sym (c .before .before .before .before .before .leads .ensures) ∙ not-false _ (c .before .before .before .before .if1 .left)) (source-is _ _ (c .before .before .before .before .before .before .before .args .e) _ _ (c .before .before .before .before .before .before .before .args .g) _ _ (c .before .before .before .count-before .ensures .0) (c .before .list-at .ensures)) (c .least-before .ensures)
 

@@ -12,40 +12,32 @@ use Rattle.curve.proofs.value_at.Reads as value-at-reads
 use Rattle.layer.proofs.list_at.Reads as list-at-reads
 
 abbrev Inv-loop : tie.InvT-loop
-Inv-loop ws cur g s j best₀ k₀ best k = (k ≤ 2) × (best ≡ pointTo cur g ws s j k)
+Inv-loop ws cur g n s j best₀ k₀ best k = (k ≤ n) × (best ≡ pointTo cur g ws s j k)
 
 abbrev μ-loop : tie.MeasureT-loop
-μ-loop ws cur g s j best₀ k₀ best k = 2 - k
+μ-loop ws cur g n s j best₀ k₀ best k = n - k
 
--- src/lib.rt:75:5
 loop-holds : tie.Need-loop-holds Inv-loop μ-loop
 loop-holds c = (omega arith, point-none _ _ _ _ _)
 
--- src/lib.rt:76:13
 list-at-requires : tie.Need-list-at-requires Inv-loop μ-loop
-list-at-requires c κs = (c .before .before .before .pre .0 .small, (c .before .before .before .pre .0 .place, (omega (arith, c .loop-test .taken), omega (arith, c .before .before .before .pre .1 .0, c .before .before .before .pre .0 .small .states))))
+list-at-requires c κs = (c .before .before .before .pre .0 .small, (c .before .before .before .pre .0 .place, (omega (arith, c .loop-test .taken, c .before .before .before .pre .0 .few), omega (arith, c .before .before .before .pre .1 .0, c .before .before .before .pre .0 .small .states))))
 
--- src/lib.rt:77:29
 value-at-requires : tie.Need-value-at-requires Inv-loop μ-loop
-value-at-requires c κs = ((held (c .before .before .before .before .pre .0) _ _ (omega (arith, c .before .loop-test .taken)) (c .before .before .before .before .pre .1 .0) _ (c .list-at .ensures), c .before .before .before .before .pre .0 .bounds .high), (c .before .before .before .before .pre .1 .1, fine (c .before .before .before .before .pre .0) _ _ (omega (arith, c .before .loop-test .taken)) (c .before .before .before .before .pre .1 .0) _ (c .list-at .ensures)))
+value-at-requires c κs = ((held (c .before .before .before .before .pre .0) _ _ (c .before .loop-test .taken) (c .before .before .before .before .pre .1 .0) _ (c .list-at .ensures), c .before .before .before .before .pre .0 .bounds .high), (c .before .before .before .before .pre .1 .1, fine (c .before .before .before .before .pre .0) _ _ (c .before .loop-test .taken) (c .before .before .before .before .pre .1 .0) _ (c .list-at .ensures)))
 
--- src/lib.rt:77:9
 lesser-requires : tie.Need-lesser-requires Inv-loop μ-loop
 lesser-requires c κs = search needs
 
--- src/lib.rt:78:9
 add-k : tie.Need-add-k Inv-loop μ-loop
-add-k c = omega (arith, c .before .before .before .loop-test .taken)
+add-k c = omega (arith, c .before .before .before .loop-test .taken, c .before .before .before .before .before .before .pre .0 .few)
 
--- src/lib.rt:75:5
 loop-less : tie.Need-loop-less Inv-loop μ-loop
 loop-less c = omega (arith, c .before .before .before .loop-test .taken)
 
--- src/lib.rt:75:5
 loop-again : tie.Need-loop-again Inv-loop μ-loop
 loop-again c = (omega (arith, c .before .before .before .loop-test .taken), point-more _ _ _ _ _ _ _ _ _ _ (c .before .before .before .before .loop .inv .1) (c .before .before .list-at .ensures) (c .before .value-at .ensures) (c .lesser .ensures))
 
--- src/lib.rt:69:1
 returns : tie.Need-returns Inv-loop μ-loop
 returns c = λ H r. point-all _ _ _ _ r (c .before .before .before .pre .1 .0) (c .before .before .before .pre .1 .1) (omega (arith, c .loop-test .left, c .before .loop .inv .0)) (c .before .loop .inv .1)
 
