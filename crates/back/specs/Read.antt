@@ -61,7 +61,7 @@ pub record EndTo (P : Plan) (H : Table) (n : ℕ) (r : End) : Type 0 where
 pub min-least : (n : ℕ) (f : ℕ → ℕ) (i : ℕ) → i < n → minBelow n f ≤ f i
 unfolding minBelow
 min-least zero f i h = absurd (omega arith)
-min-least (suc n) f i h = ⊎-elim (λ p. let e : i ≡ n = omega arith in rw e (omega arith)) (λ p. omega (arith, min-least n f i p)) (le-or-lt n i)
+min-least (suc n) f i h = ⊎-elim (λ (p : n ≤ i). let e : i ≡ n = omega arith in rw e (omega arith)) (λ (p : i < n). omega (arith, min-least n f i p)) (le-or-lt n i)
 
 pub min-of : (n : ℕ) (f : ℕ → ℕ) (v : ℕ) → v ≤ noCost → ((i : ℕ) → i < n → v ≤ f i) → v ≤ minBelow n f
 unfolding minBelow

@@ -22,7 +22,7 @@ pub enum Cover {
 pub const COUNTS: usize = 2;
 
 // 1 for a change, 0 for a stay.
-pub fn change_of(k: Kind) -> usize
+fn change_of(k: Kind) -> usize
     ensures { λ r. ⌜ r ≡ changeOf k ⌝ }
 {
     match k {

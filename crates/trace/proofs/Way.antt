@@ -17,7 +17,7 @@ use mir.Val.{SFits, toZ, ofZ, hbits}
 use Rattle.plan.specs.declared.Plan.{Plan}
 use Rattle.plan.specs.declared.Edge.{Edge}
 use Rattle.model.specs.Model.{width, edgeAt, penaltyOf, lossAt}
-use Rattle.model.specs.Labels.{labelOn, counts, countBefore}
+use Rattle.model.specs.Labels.{labelOn, counts, countBefore, used}
 use Rattle.model.specs.Run as M
 use Rattle.model.specs.Run.{joins, five}
 use Rattle.model.specs.Nodes.{Node, node}
@@ -32,7 +32,7 @@ use Rattle.runs.specs.declared.Run.{Run}
 use Rattle.runs.specs.Runs.{fiveOf, Put, Holds, holds-put}
 use Rattle.quadratic.specs.Fine.{far}
 use Rattle.edges.specs.Edge.{loss-place}
-use Rattle.layer.proofs.Next.{leads-low, base-place}
+use Rattle.layer.proofs.Next.{base-place}
 use Rattle.back.specs.Read.{Readable, Reads, layer-readable, layer-reads}
 use Rattle.back.specs.declared.Back.{Back}
 use Rattle.back.specs.declared.Back.the-variants.{To, Lost}
@@ -156,20 +156,19 @@ five-is t last s lo j e r h q =
 
 module _ {P : Plan} {zs : List ℤ} {t cur : ℕ} {g : Shape} {p : Point} {ws : List ℕ} {out : List ℤ} (a : StepReady P zs t cur g p ws out) where
   few : t ≤ 4096
-  few = omega (arith, a .more, a .task .most)
+  few = omega (arith, a .more, a .task .ready .few-readings)
 
-  pub readable : Readable cur g ws
-  readable = layer-readable (a .task) (a .layer) (a .place) few
+  pub readable : {o : Option Label} → o ≡ labelOn P t → Readable (used o) cur g ws
+  readable e = subst (λ (x : Option Label). Readable (used x) cur g ws) (sym e) (layer-readable (a .task) (a .layer) (a .place) few)
 
   pub back-ready : {o : Option Label} → o ≡ labelOn P t → BackReady P o t (p .count) (p .state) (p .level) g
   back-ready e = record {
-    checked = a .task .checked;
+    checked = a .task .ready .plan;
     shape = a .task .shape;
     on = e;
     boundary = few;
     count = a .here .count;
     index = a .here .level;
-    before = λ e l. leads-low (a .task) t e (p .count) (p .state) (a .positive) few l;
   }
 
   -- the loss as code computed it
@@ -182,8 +181,8 @@ module _ {P : Plan} {zs : List ℤ} {t cur : ℕ} {g : Shape} {p : Point} {ws : 
   pub want-is : (x : ℕ) → x ≡ lossAt zs t (P .lo +ℤ pos (p .level)) → p .value - x + lossAt zs t (P .lo +ℤ pos (p .level)) ≡ p .value
   want-is x e = omega (arith, e, loss-fits x e)
 
-  pub reads-here : Reads cur g ws (tableAt P zs t)
-  reads-here = layer-reads (a .task) (a .layer)
+  pub reads-here : {o : Option Label} → o ≡ labelOn P t → Reads (used o) cur g ws (tableAt P zs t)
+  reads-here e = subst (λ (x : Option Label). Reads (used x) cur g ws (tableAt P zs t)) (sym e) (layer-reads (a .task) (a .layer))
 
 module _ (P : Plan) (t : ℕ) (H : Table) (k s j want : ℕ) (b : Back) (f : StepTo P t H k s j want b) where
   pub lost-of : b ≡ Lost → (e : ℕ) → e < P .edgecount → Meets P t H k s j want e → ⊥

@@ -13,7 +13,7 @@ use Rattle.model.specs.Index.{noCost}
 use Rattle.model.specs.Ends.{tableAt}
 use Rattle.model.specs.Runs.{walkBack}
 use Rattle.layer.specs.declared.Shape.{Shape}
-use Rattle.layer.specs.Layer.{Layer}
+use Rattle.layer.specs.Layer.{placeMost, Layer}
 use Rattle.layer.specs.Next.{Task}
 use Rattle.runs.specs.Runs.{Holds}
 use Rattle.trace.specs.declared.Point.{Point}
@@ -34,7 +34,7 @@ pub record StepReady (P : Plan) (zs : List ℤ) (t cur : ℕ) (g : Shape) (p : P
   pub positive : 1 ≤ t
   pub more : t < length zs
   pub layer : Layer P zs t ws cur
-  pub place : cur ≤ 1048576
+  pub place : cur ≤ placeMost
   pub here : PointAt P zs (suc t) p
   pub last : p .last ≤ length zs
   pub few : p .runs ≤ 4096

@@ -46,7 +46,7 @@ fn distance(u: u64, v: u64) -> u64
 }
 
 // A stay edge from a state to itself.
-pub fn joins_run(e: Edge) -> bool
+fn joins_run(e: Edge) -> bool
     ensures { λ r. ⌜ r ≡ joins e ⌝ }
 {
     let kind = e.kind;
