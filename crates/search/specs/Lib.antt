@@ -1,4 +1,5 @@
 pub mod Search
+pub mod Cheapest
 pub mod Way
 pub mod Solve
 pub mod Right
