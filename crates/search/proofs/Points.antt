@@ -21,6 +21,7 @@ use Rattle.model.specs.Refusals.{pointNumber}
 use Rattle.model.specs.Checked.{Checked, accepted-point, point-low}
 use Rattle.model.specs.Index.{noCost, held, some-held, none-held}
 use Rattle.model.specs.Held.{Table}
+use Rattle.model.specs.Labels.{usedAt}
 use Rattle.model.specs.Ends.{tableAt, pointAt, point-by}
 use Rattle.model.specs.Tables.{ready-point, table-held}
 use Rattle.model.specs.Result.{Result, found, refused, point, foundCost, resultOf}
@@ -37,6 +38,7 @@ use Rattle.search.specs.Search.{workWords, pointResult, costOf, wordsAft
 use Rattle.search.specs.Right.{point-early-is, point-short-is, point-looks}
 use Rattle.search.specs.Solve.{Askable, Told}
 use Rattle.search.proofs.Ways.{place-low}
+use Rattle.layer.proofs.Next.{lowest-place}
 use Rattle.search.proofs.Solves.{task-of}
 use Rattle.search.proofs.Answers.{untouched, cleared-is}
 
@@ -62,7 +64,7 @@ module _ (P : Plan) (zs : List ℤ) (s : ℕ) (m : ℤ) {g : Shape} {ws : List �
   module _ (v : ℕ) (ev : pos v ≡ m +ℤ pos 163840) where
     place-is : v ≡ g .base + above (P .lo) m
     place-is =
-        omega (arith, eqN (nz v) (iz m ⊕ nz 163840) ev, eqN (nz (baseOf P)) (iz (P .lo) ⊕ nz 163840) (task .place), eqN (iz (P .lo) ⊕ nz (above (P .lo) m)) (iz m) (on-grid .1), task .shape .base)
+        omega (arith, eqN (nz v) (iz m ⊕ nz 163840) ev, eqN (nz (baseOf P)) (iz (P .lo) ⊕ nz 163840) (lowest-place task), eqN (iz (P .lo) ⊕ nz (above (P .lo) m)) (iz m) (on-grid .1), task .shape .base)
 
     pub place-high : g .base ≤ v
     place-high = omega (arith, place-is)
@@ -74,24 +76,26 @@ module _ (P : Plan) (zs : List ℤ) (s : ℕ) (m : ℤ) {g : Shape} {ws : List �
       layer-now : Layer P zs (length zs) ws′ (w .cur)
       layer-now = subst (λ (x : ℕ). Layer P zs x ws′ (w .cur)) (walked .time) (walked .at .layer)
 
-      pub may-ask : Readable (w .cur) g ws′ × ((s < g .states) × (v - g .base < g .levels))
-      may-ask = (
-        layer-readable task layer-now (place-low task (walked .at)) (task .most),
+      pub may-ask : {n : ℕ} → n ≡ usedAt P (length zs) → Readable n (w .cur) g ws′ × ((s < g .states) × (v - g .base < g .levels))
+      may-ask e = (
+        subst (λ (x : ℕ). Readable x (w .cur) g ws′) (sym e) (layer-readable task layer-now (place-low task (walked .at)) (task .ready .few-readings)),
         (omega (arith, accepted-point P (length zs) s m (a .accepts) .state, task .shape .states), omega (arith, index-is, on-grid .0, task .shape .levels)),
       )
 
-      module _ {c : ℕ} (f : (H : Table) → Reads (w .cur) g ws′ H → c ≡ pointAt H s (v - g .base)) where
+      module _ {n c : ℕ} (en : n ≡ usedAt P (length zs)) (f : (H : Table) → Reads n (w .cur) g ws′ H → c ≡ pointAt n H s (v - g .base)) where
         abbrev last-table : Table
         last-table = tableAt P zs (length zs)
 
-        least-is : c ≡ pointAt last-table s (above (P .lo) m)
-        least-is = f last-table (layer-reads task layer-now) ∙ ap (λ (x : ℕ). pointAt last-table s x) index-is
+        least-is : c ≡ pointAt (usedAt P (length zs)) last-table s (above (P .lo) m)
+        least-is =
+            f last-table (subst (λ (x : ℕ). Reads x (w .cur) g ws′ last-table) (sym en) (layer-reads task layer-now))
+            ∙ ap (λ (x : ℕ). pointAt n last-table s x) index-is ∙ ap (λ (x : ℕ). pointAt x last-table s (above (P .lo) m)) en
 
         result-is : resultOf P zs (point s m) ≡ foundCost (held c)
         result-is =
             let e = on-grid .1 in
             ap (λ (x : ℤ). resultOf P zs (point s x)) (sym e)
-            ∙ point-by P zs s (above (P .lo) m) (ap (λ (x : ℤ). pointNumber P (length zs) s x) e ∙ a .accepts) (on-grid .0) last-table (table-held P zs (task .ready) (length zs) (a .space .some) (task .most))
+            ∙ point-by P zs s (above (P .lo) m) (ap (λ (x : ℤ). pointNumber P (length zs) s x) e ∙ a .accepts) (on-grid .0) last-table (table-held P zs (task .ready) (length zs) (a .space .some) (task .ready .few-readings))
             ∙ ap (λ (x : ℕ). foundCost (held x)) (sym least-is)
 
         told : {r : Cost} (q : Result) → resultOf P zs (point s m) ≡ q → r ≡ costOf q → looked q ≡ true → Told P zs s m r ws ws′

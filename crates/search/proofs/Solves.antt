@@ -16,6 +16,7 @@ use Rattle.model.specs.Grid.{above-add}
 use Rattle.model.specs.Run as M
 use Rattle.model.specs.Run.{numbers}
 use Rattle.model.specs.RunLaws.{numbers-length}
+use Rattle.model.specs.Labels.{labelOn, used-some}
 use Rattle.model.specs.Refusals.{searchNumber}
 use Rattle.model.specs.Result.{Result, found, whole, resultOf}
 use Rattle.model.specs.Index.{noCost}
@@ -27,10 +28,10 @@ use Rattle.layer.specs.declared.Shape.{Shape}
 use Rattle.layer.specs.Layer.{Layer, ShapeOf, Shape-small, baseOf}
 use Rattle.layer.specs.Next.{Task}
 use Rattle.saved.specs.declared.Walk.{Walk}
-use Rattle.saved.specs.Walk.{Workspace, Walked}
+use Rattle.saved.specs.Walk.{Workspace, Walked, limitCell}
 use Rattle.saved.proofs.Chains.{inside-then}
 use Rattle.back.specs.declared.End.{End}
-use Rattle.back.specs.Read.{Readable, Reads, EndTo, layer-reads, layer-readable}
+use Rattle.back.specs.Read.{Readable, Reads, EndTo, layer-reads, layer-readable, readable-fewer, reads-fewer}
 use Rattle.runs.specs.Runs.{holds-is}
 use Rattle.trace.specs.declared.Point.{Point}
 use Rattle.trace.specs.Trace.{nodeAt}
@@ -45,37 +46,7 @@ use Rattle.search.proofs.Ways.{still-space, place-low}
 -- ---- the task
 
 pub task-of : {P : Plan} {zs : List ℤ} {g : Shape} → Ready P zs → ShapeOf P g → Task P zs g
-unfolding baseOf width
-task-of {P} {zs} {g} R e = record {
-  checked = R .plan;
-  ready = R;
-  shape = e;
-  most = R .few-readings;
-  place = place;
-  low = omega (arith, size);
-  high = omega (arith, size, top);
-  losses = losses-low P zs (R .lo-16) (R .hi-16) (R .readings-16);
-}
-  where
-    lo-fits : SFits w16 (P .lo)
-    lo-fits = record { sfits = R .lo-16 }
-
-    hi-fits : SFits w16 (P .hi)
-    hi-fits = record { sfits = R .hi-16 }
-
-    known : T (nonNeg (P .lo +ℤ pos 163840))
-    known = let b = sfitsN w16 (iz (P .lo)) lo-fits in yes-nonNeg (leZof (nz 0) (iz (P .lo) ⊕ nz 163840) (omega arith))
-
-    place : pos (baseOf P) ≡ P .lo +ℤ pos 163840
-    place = pos-natAbs (P .lo +ℤ pos 163840) known
-
-    size : 131072 ≤ baseOf P
-    size = let b = sfitsN w16 (iz (P .lo)) lo-fits in omega (arith, eqN (nz (baseOf P)) (iz (P .lo) ⊕ nz 163840) place)
-
-    top : baseOf P + width P ≤ 196608
-    top =
-        let b = sfitsN w16 (iz (P .hi)) hi-fits in
-        omega (arith, eqN (nz (baseOf P)) (iz (P .lo) ⊕ nz 163840) place, eqN (iz (P .lo) ⊕ nz (above (P .lo) (P .hi))) (iz (P .hi)) (above-add (P .lo) (P .hi) (R .plan .grid)))
+task-of R e = record { ready = R; shape = e }
 
 -- ---- the search
 
@@ -87,11 +58,11 @@ module _ {P : Plan} {zs : List ℤ} {g : Shape} {ws T ws′ : List ℕ} {w : Wal
   layer-now : Layer P zs (length zs) ws′ (w .cur)
   layer-now = subst (λ (x : ℕ). Layer P zs x ws′ (w .cur)) (m .time) (m .at .layer)
 
-  pub may-read : Readable (w .cur) g ws′ × ShapeOf P g
-  may-read = (layer-readable (a .task) layer-now (place-low (a .task) (m .at)) (a .task .most), a .task .shape)
+  pub may-read : Readable 1 (w .cur) g ws′ × ShapeOf P g
+  may-read = (readable-fewer (used-some (labelOn P (length zs))) (layer-readable (a .task) layer-now (place-low (a .task) (m .at)) (a .task .ready .few-readings)), a .task .shape)
 
-  pub reaches : {e : End} → ((H : Table) → Reads (w .cur) g ws′ H → EndTo P H (P .states) e) → Reaches P zs T ws ws′ (record { walk = w; end = e })
-  reaches f = record { walked = m; ends = f (tableAt P zs (length zs)) (layer-reads (a .task) layer-now) }
+  pub reaches : {e : End} → ((H : Table) → Reads 1 (w .cur) g ws′ H → EndTo P H (P .states) e) → Reaches P zs T ws ws′ (record { walk = w; end = e })
+  reaches f = record { walked = m; ends = f (tableAt P zs (length zs)) (reads-fewer (used-some (labelOn P (length zs))) (layer-reads (a .task) layer-now)) }
 
 module _ {P : Plan} {zs : List ℤ} {g : Shape} {ws : List ℕ} {out : List ℤ} (a : Solvable P zs g ws out) {T ws′ : List ℕ} {r : Ended} (m : Reaches P zs T ws ws′ r) where
   abbrev task : Task P zs g
@@ -124,7 +95,7 @@ module _ {P : Plan} {zs : List ℤ} {g : Shape} {ws : List ℕ} {out : List ℤ}
     module _ {p : Point} {ws″ : List ℕ} {out′ : List ℤ} (v : WayTo P zs 0 from p ws′ ws″ out out′) where
       pub runs-ready : (p .state < 8) × ((p .level < 1024) × ((p .last ≤ 4096) × ((p .runs < 4096) × (5 * p .runs + 5 ≤ length out′))))
       runs-ready =
-          (omega (arith, v .here .state, task .checked .few-states), (omega (arith, v .here .level, task .checked .narrow), (omega (arith, v .last, task .most), (omega (arith, v .few, task .most), omega (arith, v .few, a .room, v .size)))))
+          (omega (arith, v .here .state, task .ready .plan .few-states), (omega (arith, v .here .level, task .ready .plan .narrow), (omega (arith, v .last, task .ready .few-readings), (omega (arith, v .few, task .ready .few-readings), omega (arith, v .few, a .room, v .size)))))
 
       -- all runs, first to last
       abbrev all : List M.Run
@@ -157,9 +128,9 @@ module _ {P : Plan} {g : Shape} (c : Checked P) (e : ShapeOf P g) where
   pub small-of : Shape-small g
   small-of = record { states = omega (arith, e .states, c .few-states); levels = omega (arith, e .levels, c .narrow) }
 
-  pub need-is : (n : ℕ) → n ≡ 48 * (g .states * g .levels) → n ≡ workWords P
+  pub need-is : (n : ℕ) → n ≡ limitCell * (g .states * g .levels) → n ≡ workWords P
   unfolding workWords
-  need-is n q = q ∙ ap (λ (x : ℕ). 48 * (x * g .levels)) (e .states) ∙ ap (λ (x : ℕ). 48 * (P .states * x)) (e .levels)
+  need-is n q = q ∙ ap (λ (x : ℕ). limitCell * (x * g .levels)) (e .states) ∙ ap (λ (x : ℕ). limitCell * (P .states * x)) (e .levels)
 
 module _ (P : Plan) (zs : List ℤ) (n : ℕ) (en : n ≡ searchNumber P (length zs)) (z : n ≡ 0) where
   pub accepts : searchNumber P (length zs) ≡ 0

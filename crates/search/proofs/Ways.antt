@@ -13,8 +13,8 @@ use Rattle.model.specs.Run as M
 use Rattle.model.specs.Run.{five}
 use Rattle.model.specs.Runs.{walkBack}
 use Rattle.layer.specs.declared.Shape.{Shape}
-use Rattle.layer.specs.Layer.{Layer}
-use Rattle.layer.specs.Next.{Task, layerWords}
+use Rattle.layer.specs.Layer.{Layer, placeMost}
+use Rattle.layer.specs.Next.{Task}
 use Rattle.saved.specs.declared.Walk.{Walk}
 use Rattle.saved.specs.Packed.{Inside}
 use Rattle.saved.specs.Walk.{Workspace, At, Stack, Walked, Goes, Places, limit}
@@ -36,9 +36,9 @@ goes a w = (record { space = still-space a (w .inside); at = w .at; from = omega
 
 -- ---- back
 
-pub place-low : {P : Plan} {zs : List ℤ} {g : Shape} {w : Walk} {ws : List ℕ} → Task P zs g → At P zs w ws → w .cur ≤ 1048576
+pub place-low : {P : Plan} {zs : List ℤ} {g : Shape} {w : Walk} {ws : List ℕ} → Task P zs g → At P zs w ws → w .cur ≤ placeMost
 place-low {P} a at =
-    let h : P .states * width P ≤ 8 * 1024 = mul-le-mul (a .checked .few-states) (a .checked .narrow) in
+    let h : P .states * width P ≤ 8 * 1024 = mul-le-mul (a .ready .plan .few-states) (a .ready .plan .narrow) in
     ⊎-elim (λ x. omega (arith, x .0)) (λ x. omega (arith, x .0)) (at .places)
 
 module _ {P : Plan} {zs : List ℤ} {g : Shape} {w₀ : Walk} {p₀ : Point} {T₀ ws : List ℕ} {out : List ℤ} (a : WayReady P zs g w₀ p₀ T₀ ws out) where
@@ -69,7 +69,7 @@ module _ {P : Plan} {zs : List ℤ} {g : Shape} {w₀ : Walk} {p₀ : Point} {T�
         place = place-low (a .space .task) (m .at);
         here = b .here;
         last = b .last;
-        few = omega (arith, b .few, a .space .task .most);
+        few = omega (arith, b .few, a .space .task .ready .few-readings);
         room = omega (arith, b .few, a .room, b .size);
       }
 

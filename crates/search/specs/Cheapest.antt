@@ -29,7 +29,7 @@ module _ {P : Plan} {zs : List ℤ} {g : Shape} {T ws ws′ : List ℕ} {r : End
   last-table = tableAt P zs (length zs)
 
   hold : Holding P zs (length zs) last-table
-  hold = table-held P zs (space .task .ready) (length zs) (space .some) (space .task .most)
+  hold = table-held P zs (space .task .ready) (length zs) (space .some) (space .task .ready .few-readings)
 
   least-is : r .end .value ≡ leastEndAt P last-table
   unfolding leastEndAt

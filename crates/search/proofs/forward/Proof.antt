@@ -8,26 +8,27 @@ use Rattle.search.proofs.forward.Lts as lts
 use Rattle.saved.proofs.advance.Reads as advance-reads
 use Rattle.saved.proofs.begin.Reads as begin-reads
 
--- src/lib.rt:66:9
 begin-requires : tie.Need-begin-requires
 begin-requires c κs = search needs
 
--- src/lib.rt:68:5
 advance-requires : tie.Need-advance-requires
 advance-requires c κs = (goes (c .before .before .before .before .before .before .before .before .before .before .before .before .pre .0 .0) (c .before .before .before .before .before .before .begin .ensures), c .before .before .before .before .before .before .before .before .before .before .before .before .pre .1)
 
--- src/lib.rt:61:1
 same-length : tie.Need-same-length
 same-length c = search needs
 
--- src/lib.rt:61:1
 same-length-2 : tie.Need-same-length-2
 same-length-2 c = search needs
 
--- src/lib.rt:61:1
 returns : tie.Need-returns
 returns c = walked-then (c .before .before .before .before .before .before .before .before .before .before .before .begin .ensures) (c .before .before .before .before .advance .ensures)
 
 pub forward-spec : {M : Type 1} → statement M
 forward-spec =
-    tie.close (tie.spec begin-requires advance-requires same-length same-length-2 returns)
+    tie.close
+    (tie.spec
+    begin-requires
+    advance-requires
+    same-length
+    same-length-2
+    returns)

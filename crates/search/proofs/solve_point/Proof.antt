@@ -1,3 +1,4 @@
+use Rattle.labels.proofs.counts_at.Reads as counts-at-reads
 use Rattle.search.proofs.Shapes.{place-is}
 use Rattle.search.proofs.Points.{place-high, may-ask, told-none, told-least}
 use borrow.Author.Needs.{needs}
@@ -10,53 +11,47 @@ use Rattle.coded.proofs.put_plan.Reads as put-plan-reads
 use Rattle.integers.proofs.bias.Reads as bias-reads
 use Rattle.search.proofs.forward.Reads as forward-reads
 
--- src/lib.rt:200:27
 slice-aggregate-put-plan : tie.Need-slice-aggregate-put-plan
 slice-aggregate-put-plan c = search needs
 
--- src/lib.rt:200:5
 put-plan-requires : tie.Need-put-plan-requires
 put-plan-requires c κs = search needs
 
--- src/lib.rt:201:34
 slice-aggregate-forward : tie.Need-slice-aggregate-forward
 slice-aggregate-forward c = search needs
 
--- src/lib.rt:201:54
 slice-aggregate-forward-2 : tie.Need-slice-aggregate-forward-2
 slice-aggregate-forward-2 c = search needs
 
--- src/lib.rt:201:9
 forward-requires : tie.Need-forward-requires
 forward-requires c κs = search needs
 
--- src/lib.rt:203:9
+slice-aggregate-counts-at : tie.Need-slice-aggregate-counts-at
+slice-aggregate-counts-at c = search needs
+
+counts-at-requires : tie.Need-counts-at-requires
+counts-at-requires c κs = (c .before .before .before .before .before .before .before .before .before .before .before .before .pre .space .task .ready .plan, c .before .before .before .before .before .before .before .before .before .put-plan .ensures)
+
 bias-requires : tie.Need-bias-requires
 bias-requires c κs = search needs
 
--- src/lib.rt:204:62
 sub-point-cost : tie.Need-sub-point-cost
-sub-point-cost c = place-high (c .before .before .before .before .before .before .before .before .before .before .before .before .before .before .args .plan) (c .before .before .before .before .before .before .before .before .before .before .before .before .before .before .args .readings .now) (c .before .before .before .before .before .before .before .before .before .before .before .before .before .before .args .state) (c .before .before .before .before .before .before .before .before .before .before .before .before .before .before .args .level) (c .before .before .before .before .before .before .before .before .before .before .before .before .before .before .pre) _ (place-is (c .before .before .before .before .before .before .before .before .before .before .before .before .before .before .args .level) _ (c .before .before .before .before .before .before .before .before .before .before .before .before .before .before .fits .level .sfits) (c .before .before .bias .ensures .0))
+sub-point-cost c = place-high (c .before .before .before .before .before .before .before .before .before .before .before .before .before .before .before .before .args .plan) (c .before .before .before .before .before .before .before .before .before .before .before .before .before .before .before .before .args .readings .now) (c .before .before .before .before .before .before .before .before .before .before .before .before .before .before .before .before .args .state) (c .before .before .before .before .before .before .before .before .before .before .before .before .before .before .before .before .args .level) (c .before .before .before .before .before .before .before .before .before .before .before .before .before .before .before .before .pre) _ (place-is (c .before .before .before .before .before .before .before .before .before .before .before .before .before .before .before .before .args .level) _ (c .before .before .before .before .before .before .before .before .before .before .before .before .before .before .before .before .fits .level .sfits) (c .before .before .bias .ensures .0))
 
--- src/lib.rt:204:9
 point-cost-requires : tie.Need-point-cost-requires
-point-cost-requires c κs = may-ask (c .before .before .before .before .before .before .before .before .before .before .before .before .before .before .args .plan) (c .before .before .before .before .before .before .before .before .before .before .before .before .before .before .args .readings .now) (c .before .before .before .before .before .before .before .before .before .before .before .before .before .before .args .state) (c .before .before .before .before .before .before .before .before .before .before .before .before .before .before .args .level) (c .before .before .before .before .before .before .before .before .before .before .before .before .before .before .pre) _ (place-is (c .before .before .before .before .before .before .before .before .before .before .before .before .before .before .args .level) _ (c .before .before .before .before .before .before .before .before .before .before .before .before .before .before .fits .level .sfits) (c .before .before .bias .ensures .0)) (c .before .before .before .before .before .before .forward .ensures)
+point-cost-requires c κs = may-ask (c .before .before .before .before .before .before .before .before .before .before .before .before .before .before .before .before .args .plan) (c .before .before .before .before .before .before .before .before .before .before .before .before .before .before .before .before .args .readings .now) (c .before .before .before .before .before .before .before .before .before .before .before .before .before .before .before .before .args .state) (c .before .before .before .before .before .before .before .before .before .before .before .before .before .before .before .before .args .level) (c .before .before .before .before .before .before .before .before .before .before .before .before .before .before .before .before .pre) _ (place-is (c .before .before .before .before .before .before .before .before .before .before .before .before .before .before .before .before .args .level) _ (c .before .before .before .before .before .before .before .before .before .before .before .before .before .before .before .before .fits .level .sfits) (c .before .before .bias .ensures .0)) (c .before .before .before .before .before .before .before .before .forward .ensures) (c .before .before .before .counts-at .ensures .0)
 
--- src/lib.rt:206:9
 same-length : tie.Need-same-length
 same-length c = search needs
 
--- src/lib.rt:206:9
 returns : tie.Need-returns
-returns c = told-none (c .before .before .before .before .before .before .before .before .before .before .before .before .before .before .before .before .args .plan) (c .before .before .before .before .before .before .before .before .before .before .before .before .before .before .before .before .args .readings .now) (c .before .before .before .before .before .before .before .before .before .before .before .before .before .before .before .before .args .state) (c .before .before .before .before .before .before .before .before .before .before .before .before .before .before .before .before .args .level) (c .before .before .before .before .before .before .before .before .before .before .before .before .before .before .before .before .pre) _ (place-is (c .before .before .before .before .before .before .before .before .before .before .before .before .before .before .before .before .args .level) _ (c .before .before .before .before .before .before .before .before .before .before .before .before .before .before .before .before .fits .level .sfits) (c .before .before .before .before .bias .ensures .0)) (c .before .before .before .before .before .before .before .before .forward .ensures) (c .before .point-cost .ensures) (c .if1 .taken)
+returns c = told-none (c .before .before .before .before .before .before .before .before .before .before .before .before .before .before .before .before .before .before .args .plan) (c .before .before .before .before .before .before .before .before .before .before .before .before .before .before .before .before .before .before .args .readings .now) (c .before .before .before .before .before .before .before .before .before .before .before .before .before .before .before .before .before .before .args .state) (c .before .before .before .before .before .before .before .before .before .before .before .before .before .before .before .before .before .before .args .level) (c .before .before .before .before .before .before .before .before .before .before .before .before .before .before .before .before .before .before .pre) _ (place-is (c .before .before .before .before .before .before .before .before .before .before .before .before .before .before .before .before .before .before .args .level) _ (c .before .before .before .before .before .before .before .before .before .before .before .before .before .before .before .before .before .before .fits .level .sfits) (c .before .before .before .before .bias .ensures .0)) (c .before .before .before .before .before .before .before .before .before .before .forward .ensures) (c .before .before .before .before .before .counts-at .ensures .0) (c .before .point-cost .ensures) (c .if1 .taken)
 
--- src/lib.rt:187:1
 same-length-2 : tie.Need-same-length-2
 same-length-2 c = search needs
 
--- src/lib.rt:187:1
 returns-2 : tie.Need-returns-2
-returns-2 c = told-least (c .before .before .before .before .before .before .before .before .before .before .before .before .before .before .before .before .args .plan) (c .before .before .before .before .before .before .before .before .before .before .before .before .before .before .before .before .args .readings .now) (c .before .before .before .before .before .before .before .before .before .before .before .before .before .before .before .before .args .state) (c .before .before .before .before .before .before .before .before .before .before .before .before .before .before .before .before .args .level) (c .before .before .before .before .before .before .before .before .before .before .before .before .before .before .before .before .pre) _ (place-is (c .before .before .before .before .before .before .before .before .before .before .before .before .before .before .before .before .args .level) _ (c .before .before .before .before .before .before .before .before .before .before .before .before .before .before .before .before .fits .level .sfits) (c .before .before .before .before .bias .ensures .0)) (c .before .before .before .before .before .before .before .before .forward .ensures) (c .before .point-cost .ensures) (c .if1 .left)
+returns-2 c = told-least (c .before .before .before .before .before .before .before .before .before .before .before .before .before .before .before .before .before .before .args .plan) (c .before .before .before .before .before .before .before .before .before .before .before .before .before .before .before .before .before .before .args .readings .now) (c .before .before .before .before .before .before .before .before .before .before .before .before .before .before .before .before .before .before .args .state) (c .before .before .before .before .before .before .before .before .before .before .before .before .before .before .before .before .before .before .args .level) (c .before .before .before .before .before .before .before .before .before .before .before .before .before .before .before .before .before .before .pre) _ (place-is (c .before .before .before .before .before .before .before .before .before .before .before .before .before .before .before .before .before .before .args .level) _ (c .before .before .before .before .before .before .before .before .before .before .before .before .before .before .before .before .before .before .fits .level .sfits) (c .before .before .before .before .bias .ensures .0)) (c .before .before .before .before .before .before .before .before .before .before .forward .ensures) (c .before .before .before .before .before .counts-at .ensures .0) (c .before .point-cost .ensures) (c .if1 .left)
 
 pub solve-point-spec : {M : Type 1} → statement M
 solve-point-spec =
@@ -67,6 +62,8 @@ solve-point-spec =
     slice-aggregate-forward
     slice-aggregate-forward-2
     forward-requires
+    slice-aggregate-counts-at
+    counts-at-requires
     bias-requires
     sub-point-cost
     point-cost-requires
