@@ -17,6 +17,7 @@ ghost use Rattle.saved.specs.Walk.{Workspace, At, Goes, Walked, Reached,
 
 // The words of the workspace for each state and level: those of two layers, and all of them.
 const FREE_AT: usize = 2 * layer::LAYER_WORDS;
+
 pub const ALL_WORDS: usize = 24 * labels::COUNTS;
 
 // The most layers that are saved.
@@ -359,7 +360,17 @@ pub fn begin(
 {
     let a = area(g);
     table[SLOTS] = FREE_AT * a + layer::FREE_WORDS * (g.levels as usize);
-    restart(ws, plan, code, readings, g, 0, layer::LAYER_WORDS * a, table, 0)
+    restart(
+        ws,
+        plan,
+        code,
+        readings,
+        g,
+        0,
+        layer::LAYER_WORDS * a,
+        table,
+        0,
+    )
 }
 
 // Back to t: from the last layer saved that is not later, and forward again.
@@ -378,6 +389,16 @@ pub fn rewind(
     ensures { λ r. ⌜ Walked plan (now (readings .entry)) t (now (table .exit)) (now (ws .entry)) (now (ws .exit)) r ⌝ }
 {
     let kept = drop_after(table, walk.count, t);
-    let w = restart(ws, plan, code, readings, g, walk.cur, walk.other, table, kept);
+    let w = restart(
+        ws,
+        plan,
+        code,
+        readings,
+        g,
+        walk.cur,
+        walk.other,
+        table,
+        kept,
+    );
     advance(ws, plan, code, readings, g, w, table, t)
 }

@@ -1,4 +1,4 @@
-//! A layer: one list for each count of changes (0 and 1) and each state, after some readings.
+//! A layer: one list for each state and each count of changes that the label at the next boundary asks to keep apart, after some readings.
 use crate::list::*;
 use crate::model::*;
 use crate::piece::*;
@@ -59,7 +59,9 @@ pub fn first_layer(ws: &mut [u64], fr: Frame, plan: &Plan, base: usize, x: i64) 
         let c = if plan.start >> s & 1 == 1 { 0 } else { NONE };
         write_constant(ws, acc, c, fr.hi);
         add_loss(ws, acc, fr.list(base, 0, s), x, fr.hi);
-        write_constant(ws, fr.list(base, 1, s), NONE, fr.hi);
+        for k in 1..counts_at(plan, 1) {
+            write_constant(ws, fr.list(base, k, s), NONE, fr.hi);
+        }
     }
 }
 
@@ -135,7 +137,7 @@ fn next_list(ws: &mut [u64], fr: Frame, plan: &Plan, mode: Mode, cur: usize, dst
 /// The layer at `next` after a boundary, from the layer at `cur`; x is the reading after the boundary.
 pub fn next_layer(ws: &mut [u64], fr: Frame, plan: &Plan, boundary: usize, cur: usize, next: usize, x: i64) {
     let mode = mode_at(plan, boundary);
-    for k in 0..2 {
+    for k in 0..counts_at(plan, boundary + 1) {
         for s in 0..fr.states {
             next_list(ws, fr, plan, mode, cur, fr.list(next, k, s), k, s, x);
         }

@@ -95,6 +95,14 @@ pub fn mode_at(plan: &Plan, boundary: usize) -> Mode {
     }
 }
 
+/// How many counts of changes are kept apart after t readings: up to what the label at the next boundary asks for.
+pub fn counts_at(plan: &Plan, t: usize) -> usize {
+    match mode_at(plan, t) {
+        Mode::Free => 1,
+        Mode::Inside(c) | Mode::Closes(c) => c + 1,
+    }
+}
+
 /// The count before a boundary from which count `k` after it is reached over this kind of edge.
 #[inline(always)]
 pub fn count_before(mode: Mode, k: usize, kind: Kind) -> Option<usize> {

@@ -1,6 +1,7 @@
 //! Saved layers: a stack in the rest of the workspace, with a small table of times and places.
 use crate::layer::*;
 use crate::list::*;
+use crate::model::*;
 
 pub const SLOTS: usize = 96;
 
@@ -21,26 +22,26 @@ impl Saved {
     }
 }
 
-/// Words that the layer at `cur` takes when it is saved: only the pieces there are.
-fn layer_length(ws: &[u64], fr: Frame, cur: usize) -> usize {
-    (0..2 * fr.states).map(|j| length(ws, fr.list(cur, 0, j), fr.hi)).sum()
+/// Words that the layer after t readings, at `cur`, takes when it is saved: only the pieces there are.
+fn layer_length(ws: &[u64], fr: Frame, plan: &Plan, cur: usize, t: usize) -> usize {
+    (0..counts_at(plan, t) * fr.states).map(|j| length(ws, fr.list(cur, 0, j), fr.hi)).sum()
 }
 
 /// Slots that are free, later layers taken as a quarter larger than the one at hand.
-pub fn free_slots(ws: &[u64], fr: Frame, saved: &Saved, cur: usize) -> usize {
-    let need = layer_length(ws, fr, cur) * 5 / 4;
+pub fn free_slots(ws: &[u64], fr: Frame, plan: &Plan, saved: &Saved, cur: usize, t: usize) -> usize {
+    let need = layer_length(ws, fr, plan, cur, t) * 5 / 4;
     let free = fr.words() - saved.off[saved.count];
     (free / need.max(1)).min(SLOTS - saved.count)
 }
 
 /// Saves the layer at `cur` as that after t readings, where there is room.
-pub fn save(ws: &mut [u64], fr: Frame, saved: &mut Saved, cur: usize, t: usize) {
+pub fn save(ws: &mut [u64], fr: Frame, plan: &Plan, saved: &mut Saved, cur: usize, t: usize) {
     let at = saved.off[saved.count];
-    if saved.count == SLOTS || at + layer_length(ws, fr, cur) > fr.words() {
+    if saved.count == SLOTS || at + layer_length(ws, fr, plan, cur, t) > fr.words() {
         return;
     }
     let mut to = at;
-    for j in 0..2 * fr.states {
+    for j in 0..counts_at(plan, t) * fr.states {
         to += copy_list(ws, fr.list(cur, 0, j), to, fr.hi);
     }
     saved.time[saved.count] = t;
@@ -49,9 +50,9 @@ pub fn save(ws: &mut [u64], fr: Frame, saved: &mut Saved, cur: usize, t: usize) 
 }
 
 /// Puts the layer saved last at `cur`.
-pub fn load(ws: &mut [u64], fr: Frame, saved: &Saved, cur: usize) {
+pub fn load(ws: &mut [u64], fr: Frame, plan: &Plan, saved: &Saved, cur: usize) {
     let mut from = saved.off[saved.count - 1];
-    for j in 0..2 * fr.states {
+    for j in 0..counts_at(plan, saved.time[saved.count - 1]) * fr.states {
         from += copy_list(ws, from, fr.list(cur, 0, j), fr.hi);
     }
 }

@@ -44,12 +44,12 @@ fn step(ws: &mut [u64], fr: Frame, plan: &Plan, z: &[i16], wk: &mut Walk) {
 
 /// Forward to t, with layers saved on the way.
 fn advance(ws: &mut [u64], fr: Frame, plan: &Plan, z: &[i16], wk: &mut Walk, t: usize) {
-    let mut save_at = next_save(wk.time, t, free_slots(ws, fr, &wk.saved, wk.cur));
+    let mut save_at = next_save(wk.time, t, free_slots(ws, fr, plan, &wk.saved, wk.cur, wk.time));
     while wk.time < t {
         step(ws, fr, plan, z, wk);
         if wk.time == save_at && wk.time < t {
-            save(ws, fr, &mut wk.saved, wk.cur, wk.time);
-            save_at = next_save(wk.time, t, free_slots(ws, fr, &wk.saved, wk.cur));
+            save(ws, fr, plan, &mut wk.saved, wk.cur, wk.time);
+            save_at = next_save(wk.time, t, free_slots(ws, fr, plan, &wk.saved, wk.cur, wk.time));
         }
     }
 }
@@ -60,7 +60,7 @@ fn rewind(ws: &mut [u64], fr: Frame, plan: &Plan, z: &[i16], wk: &mut Walk, t: u
         wk.saved.count -= 1;
     }
     if wk.saved.count > 0 {
-        load(ws, fr, &wk.saved, wk.cur);
+        load(ws, fr, plan, &wk.saved, wk.cur);
         wk.time = wk.saved.time[wk.saved.count - 1];
     } else {
         first_layer(ws, fr, plan, wk.cur, z[0] as i64);
@@ -157,9 +157,10 @@ fn forward(ws: &mut [u64], fr: Frame, plan: &Plan, z: &[i16]) -> Walk {
 pub fn point(ws: &mut [u64], plan: &Plan, z: &[i16], s: usize, m: i64) -> Option<i64> {
     let fr = Frame::of(plan);
     let wk = forward(ws, fr, plan, z);
-    let costs = [0, 1].map(|k| least_in(ws, fr.list(wk.cur, k, s), m, m, fr.lo).value);
+    let costs = (0..counts_at(plan, z.len())).map(|k| least_in(ws, fr.list(wk.cur, k, s), m, m, fr.lo).value);
+    let least = costs.min().filter(|cost| *cost < NONE);
     ws.fill(0);
-    costs.into_iter().min().filter(|cost| *cost < NONE)
+    least
 }
 
 /// The search; the workspace is cleared, as the proved call does. Also the steps forward that it took.
@@ -205,7 +206,7 @@ pub fn stats(ws: &mut [u64], plan: &Plan, z: &[i16]) -> Stats {
     first_layer(ws, fr, plan, 0, z[0] as i64);
     while wk.time < z.len() {
         step(ws, fr, plan, z, &mut wk);
-        for j in 0..2 * fr.states {
+        for j in 0..counts_at(plan, wk.time) * fr.states {
             let f = fr.list(wk.cur, 0, j);
             let n = length(ws, f, fr.hi) / P;
             if n > 1 || !piece(ws, f).is_none() {
