@@ -106,3 +106,14 @@ segmentOutcome r room = writtenOutcome (outcome (roomNumber (resultBytes r) room
 
 unfoldable pub afterSegment : Result → List ℕ → List ℕ
 afterSegment r out = written (roomNumber (resultBytes r) (length out)) (resultBytes r) out
+
+-- ---- what the program `segment` lends
+
+-- "It lends a workspace of 7,680 words, 16,000 run numbers and no buffer above 64 KiB", and room for the 4,096 readings that a record may have:
+-- the answer file that it writes
+unfoldable pub programBytes : List ℕ → List ℕ
+programBytes s = resultBytes (fileResult s 4096 7680 16000)
+
+-- bytes at the front of a list, the rest as it was
+unfoldable pub atFront : List ℕ → List ℕ → List ℕ
+atFront bs out = bs ++ drop (length bs) out
