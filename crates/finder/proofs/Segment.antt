@@ -29,7 +29,7 @@ use Rattle.answers.specs.Runs.{isRefusal}
 use Rattle.answers.specs.Lengths.{answer-length}
 use Rattle.answers.specs.Writer.{answerBytes, refusalBytes, answerLength, answerNumber, refusalNumber, answerWritten, afterAnswer, refusalWritten, afterRefusal}
 use Rattle.finder.specs.declared.Outcome.{Outcome}
-use Rattle.finder.specs.Finder.{refusedWith, writtenOutcome, onPlan, fileWords, readNumber, fileReadings, fileResult, resultBytes, roomNumber, segmentOutcome, afterSegment}
+use Rattle.finder.specs.Finder.{refusedWith, writtenOutcome, onPlan, fileWords, readingsNumber, fileReadings, fileResult, resultBytes, roomNumber, segmentOutcome, afterSegment}
 use Rattle.finder.specs.Parts.{runsIn, foundWritten, afterFound}
 use Rattle.finder.proofs.Calls.{none, some, part-is, number-is, list-is}
 use Rattle.finder.proofs.Numbers.{listed, answerListed, file-listed}

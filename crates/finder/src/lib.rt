@@ -32,11 +32,11 @@ pub struct Reply {
     pub count: usize,
 }
 
-fn refused(n: u8) -> Outcome
-    ensures { λ r. ⌜ r ≡ refusedWith n ⌝ }
+fn refused(number: u8) -> Outcome
+    ensures { λ r. ⌜ r ≡ refusedWith number ⌝ }
 {
     Outcome {
-        refusal: n,
+        refusal: number,
         cost: 0,
         count: 0,
     }
