@@ -24,16 +24,17 @@ fitting : (r : Result) (out : List ℕ) → length (resultBytes r) ≤ length ou
 unfolding segmentOutcome afterSegment roomNumber outcome written atFront
 fitting r out h = rw (le-leb (length (resultBytes r)) (length out) h) (refl, refl)
 
-pub program-answer : (s : List ℕ) (runs runs′ : List ℤ) (out out′ : List ℕ) (o : Outcome)
-    → o ≡ segmentOutcome (fileResult s 4096 7680 16000) (length out) → out′ ≡ afterSegment (fileResult s 4096 7680 16000) out
-    → runs′ ≡ runsAfter (fileResult s 4096 7680 16000) runs → length runs′ ≡ length runs → length runs ≡ 16000 → length out ≡ 65536
+pub program-answer : (s : List ℕ) (room words numbers : ℕ) (runs runs′ : List ℤ) (out out′ : List ℕ) (o : Outcome)
+    → o ≡ segmentOutcome (fileResult s room words numbers) (length out) → out′ ≡ afterSegment (fileResult s room words numbers) out
+    → runs′ ≡ runsAfter (fileResult s room words numbers) runs → length runs′ ≡ length runs
+    → room ≡ 4096 → words ≡ 7680 → numbers ≡ 16000 → length runs ≡ numbers → length out ≡ 65536
     → (o .count ≡ length (programBytes s)) × (out′ ≡ atFront (programBytes s) out)
 unfolding programBytes
-program-answer s runs runs′ out out′ o u v w l a b =
-    let r = fileResult s 4096 7680 16000 in
+program-answer s room words numbers runs runs′ out out′ o u v w l a b c d e =
+    let r = fileResult s room words numbers in
     let k : length (runsAfter r runs) ≡ length runs = ap length (sym w) ∙ l in
-    let f = fitting r out (omega (arith, bytes-low r runs k (omega (arith, a)), b)) in
-    (ap (λ (x : Outcome). x .count) u ∙ f .0, v ∙ f .1)
+    let f = fitting r out (omega (arith, bytes-low r runs k (omega (arith, c, d)), e)) in
+    rw (← a, ← b, ← c) (ap (λ (x : Outcome). x .count) u ∙ f .0, v ∙ f .1)
 
 -- the bytes of an answer stand within those that were lent
 pub answer-low : (s out out′ : List ℕ) (m : ℕ) → (m ≡ length (programBytes s)) × (out′ ≡ atFront (programBytes s) out) → m ≤ length out′

@@ -25,7 +25,7 @@ yeldaski-segment-requires c κs = search needs
 
 -- src/lib.rt:268:1
 returns : tie.Need-returns
-returns c = program-answer _ _ _ _ _ _ (c .before .before .before .yeldaski-segment .ensures .0) (c .before .before .before .yeldaski-segment .ensures .1 .0) (c .before .before .before .yeldaski-segment .ensures .1 .1 .1 .0) (c .before .before .before .yeldaski-segment .kept .1 .1 .1 .0) refl (search needs)
+returns c = program-answer _ _ _ _ _ _ _ _ _ (c .before .before .before .yeldaski-segment .ensures .0) (c .before .before .before .yeldaski-segment .ensures .1 .0) (c .before .before .before .yeldaski-segment .ensures .1 .1 .1 .0) (c .before .before .before .yeldaski-segment .kept .1 .1 .1 .0) refl refl refl refl (search needs)
 
 pub answer-file-spec : {M : Type 1} → statement M
 answer-file-spec =
