@@ -26,7 +26,7 @@ fn example_in_c() {
         .args(["-std=c99", "-Wall", "-Wextra", "-pedantic", "-Werror", "-I"])
         .arg(root.join("include"))
         .arg(package.join("tests/example.c"))
-        .arg(root.join("target/staticlib/libfinder.a"))
+        .arg(env!("LIBFINDER"))
         .arg("-o")
         .arg(&program)
         .status()
