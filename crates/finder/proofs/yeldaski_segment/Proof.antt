@@ -83,7 +83,7 @@ slice-reshare-prefix-search c = omega (arith, prefix-fits _ (c .before .before .
 
 -- src/lib.rt:246:34
 slice-aggregate-search : tie.Need-slice-aggregate-search
-slice-aggregate-search c = sym (length-take-le _ _ (prefix-fits _ (c .before .before .before .before .before .before .before .before .before .before .before .before .before .before .args .readings .now) _ _ (c .before .before .before .before .before .decode .ensures) (c .before .before .before .if1 .left)))
+slice-aggregate-search c = sym (length-take-le _ _ (omega (arith, prefix-fits _ (c .before .before .before .before .before .before .before .before .before .before .before .before .before .before .args .readings .now) _ _ (c .before .before .before .before .before .decode .ensures) (c .before .before .before .if1 .left))))
 
 -- src/lib.rt:246:9
 search-requires : tie.Need-search-requires
