@@ -13,7 +13,10 @@ const NUMBERS: u64 = 16_000;
 /// What the program writes when its standard input is fed so.
 fn written(feed: impl FnOnce(ChildStdin) + Send + 'static) -> Vec<u8> {
     let program = Path::new(env!("CARGO_MANIFEST_DIR")).join("../../target/bin/segment");
-    assert!(program.exists(), "the program is missing; run in the root of the repository: rt check segment");
+    assert!(
+        program.exists(),
+        "the program is missing; run in the root of the repository: rt check segment"
+    );
     let mut child = Command::new(program)
         .stdin(Stdio::piped())
         .stdout(Stdio::piped())
