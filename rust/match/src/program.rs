@@ -101,14 +101,14 @@ fn states_times_levels() {
 
 #[test]
 fn readings() {
-    let of = |states, levels, n| answer(&with_readings(plan(states, levels, &[STAY, ANY]), &record(n)));
-    assert!(runs(&of(1, 30, 3_200)) > 1_000);
-    assert_eq!(of(1, 30, 3_201), refusal(15));
-    assert_eq!(of(1, 30, 4_096), refusal(15));
+    let of = |levels, n| answer(&with_readings(plan(1, levels, &[STAY, ANY]), &record(n)));
+    assert!(runs(&of(30, 3_200)) > 1_000);
+    assert_eq!(of(30, 3_201), refusal(15));
+    assert_eq!(of(30, 4_096), refusal(15));
     // 14 comes before 15: the readings have room, the run numbers have not
-    assert_eq!(of(1, 161, 4_096), refusal(14));
-    assert_eq!(of(1, 161, 4_097), refusal(9));
-    assert_eq!(of(1, 30, 0), refusal(9));
+    assert_eq!(of(161, 4_096), refusal(14));
+    assert_eq!(of(161, 4_097), refusal(9));
+    assert_eq!(of(30, 0), refusal(9));
 }
 
 /// Without a stay every reading is a run.
@@ -131,11 +131,11 @@ fn files_longer_than_a_plan() {
     assert_eq!(longest.len(), 9_008);
     assert_eq!(answer(&longest), refusal(15));
     let short = with_readings(plan(1, 10, &[STAY]), &record(5));
-    for (file, whole) in [(&longest, 15), (&short, 0)] {
-        for (more, number) in [(0, whole), (1, 1), (2, 1), (3, 2), (65_536, 2), (300_000, 2)] {
+    assert_eq!(runs(&answer(&short)), 1);
+    for file in [&longest, &short] {
+        for (more, number) in [(1, 1), (2, 1), (3, 2), (65_536, 2), (300_000, 2)] {
             for tag in [0x05, 0x77] {
-                let said = answer(&[&file[..], &vec![tag; more]].concat());
-                assert!(said == refusal(number) || number == 0 && runs(&said) == 1);
+                assert_eq!(answer(&[&file[..], &vec![tag; more]].concat()), refusal(number));
             }
         }
     }
