@@ -1,14 +1,10 @@
 //! The program `segment` itself, at the limits of what it lends. What it has to write comes from the oracle.
-use crate::files::{put_field, segment};
+use crate::files::{put_field, segment, SEGMENT_ROOM, SEGMENT_WORDS};
 use crate::RULES;
 use std::io::Write;
 use std::path::Path;
 use std::process::{ChildStdin, Command, Stdio};
 use std::time::Duration;
-
-/// "It lends a workspace of 7,680 words, 16,000 run numbers".
-const WORDS: u64 = 7_680;
-const NUMBERS: u64 = 16_000;
 
 /// What the program writes when its standard input is fed so.
 fn written(feed: impl FnOnce(ChildStdin) + Send + 'static) -> Vec<u8> {
@@ -32,7 +28,7 @@ fn written(feed: impl FnOnce(ChildStdin) + Send + 'static) -> Vec<u8> {
 
 /// The oracle's answer, which the program writes too.
 fn answer(file: &[u8]) -> Vec<u8> {
-    let said = segment(RULES, file, WORDS, NUMBERS);
+    let said = segment(RULES, file, SEGMENT_WORDS, SEGMENT_ROOM);
     let input = file.to_vec();
     // The program reads no more than its buffer holds, so the pipe may break.
     let wrote = written(move |mut stdin| drop(stdin.write_all(&input)));
