@@ -1,7 +1,8 @@
 /* Yeldaski: the change finder for motor current, for programs in C.
  *
  * Link with libfinder.a. Nothing is allocated and nothing is kept between calls. Every list is a pointer and a length in elements. A list may
- * hold anything before a call; lists that a call writes must overlap no other list of the same call. A length of 0 is allowed everywhere.
+ * hold anything before a call; lists that a call writes must overlap no other list of the same call. A length of 0 is allowed everywhere, and
+ * its pointer is then never followed: it may be NULL.
  *
  * A plan is handed over as the bytes of a plan file:
  *     01 lo hi | 02 states, start mask, end mask | 03 one per edge | 04 one per label | 05 readings
@@ -50,15 +51,15 @@ typedef struct {
     size_t count;    /* how many runs, readings or bytes were written */
 } yeldaski_outcome;
 
-/* What reading an answer file gives. */
+/* What reading an answer file gives. Where the file was not read, held, cost and count are 0; where it holds a refusal, cost and count are 0. */
 typedef struct {
     uint8_t refusal; /* why the file was not read, 0 where it was */
     uint8_t held;    /* the refusal number that the file holds, 0 for none */
-    uint64_t cost;   /* the cost and the count of runs that it holds otherwise */
-    size_t count;
+    uint64_t cost;   /* the cost that it holds otherwise */
+    size_t count;    /* and how many runs */
 } yeldaski_reply;
 
-/* Words of workspace for a search or a cost at a point. */
+/* Words of workspace for a search or a cost at a point, for 1 to 8 states and 1 to 1,024 levels. */
 #define YELDASKI_WORDS(states, levels) ((size_t)48 * (states) * (levels))
 
 /* Decodes the readings of a plan file. count = how many.
@@ -80,14 +81,15 @@ yeldaski_outcome yeldaski_write_plan(const uint8_t *file, size_t file_len, const
 yeldaski_outcome yeldaski_search(const uint8_t *file, size_t file_len, const int16_t *readings, size_t readings_len, uint64_t *workspace,
                                  size_t workspace_len, int32_t *runs, size_t runs_len);
 
-/* The least cost of the segmentations of `readings` that end in the named state at the named level. The end mask is ignored; of the labels
- * only what lies within the readings counts.
+/* The least cost of the segmentations of `readings` that end in the named state at the named level. cost = this cost, count = 0. The end mask is
+ * ignored. Of the labels (p, q, c) those with q up to the last reading hold; one that is still open there (p before it, q behind it) allows at
+ * most c changes so far; later ones are ignored.
  * Refuses: plan reader, 9, 5 (state), 4 (level), 14, 16.
  * workspace: as with yeldaski_search. */
 yeldaski_outcome yeldaski_point(const uint8_t *file, size_t file_len, const int16_t *readings, size_t readings_len, uint8_t state,
                                 int16_t level, uint64_t *workspace, size_t workspace_len);
 
-/* Reads an answer file.
+/* Reads an answer file. held = the refusal that it holds; or cost = its cost, count = its runs.
  * Refuses: field by field to the end of the file cut header 1, tag 2, length 3, cut body 1, 17; then 15.
  * runs: where the file holds runs and is read, its first 5 * count numbers are the runs and the rest stays; otherwise all of it stays. */
 yeldaski_reply yeldaski_read_answer(const uint8_t *file, size_t file_len, int32_t *runs, size_t runs_len);
@@ -103,10 +105,11 @@ yeldaski_outcome yeldaski_write_answer(uint64_t cost, const int32_t *runs, size_
 yeldaski_outcome yeldaski_write_refusal(uint8_t number, uint8_t *out, size_t out_len);
 
 /* Plan file in, answer file out: the runs, or the refusal that reading, decoding or searching gave. count = bytes.
- * Refuses: only 15, where `out` is too short for the answer file.
+ * Refuses: only 15, where `out` is too short for the answer file. That is found at the end, after the other lists were used.
  * out: on success its first `count` bytes are the answer file and the rest stays; on refusal all of it stays.
  * readings: as yeldaski_read_plan leaves it. runs and workspace: as yeldaski_search over these readings leaves them, also where `out` is then too
- * short; all of both stays where the plan file is refused. */
+ * short. Where the plan file is refused, and where `readings` is too short for its readings (the answer file then holds 15), all of readings, runs
+ * and workspace stays. */
 yeldaski_outcome yeldaski_segment(const uint8_t *file, size_t file_len, int16_t *readings, size_t readings_len, uint64_t *workspace,
                                   size_t workspace_len, int32_t *runs, size_t runs_len, uint8_t *out, size_t out_len);
 

@@ -22,7 +22,7 @@ use Rattle.files.specs.declared.FileRead.{FileRead}
 use Rattle.files.specs.Reader.{planFile, readingsPart}
 use Rattle.files.specs.Writer.{planWritten, afterWriting}
 use Rattle.finder.specs.declared.Outcome.{Outcome}
-use Rattle.finder.specs.Finder.{given, refusedWith, searchOutcome, pointOutcome, writtenOutcome, onPlan, searchFile, pointFile, fileWords, readNumber, readOutcome, fileReadings, rewritten, afterRewriting}
+use Rattle.finder.specs.Finder.{given, refusedWith, searchOutcome, pointOutcome, writtenOutcome, onPlan, searchFile, pointFile, fileWords, readingsNumber, readOutcome, fileReadings, rewritten, afterRewriting}
 use Rattle.finder.specs.Parts.{foundOutcome, costOutcome, runsIn, foundWritten, afterFound}
 
 found-outcome : (r : Result) → foundOutcome (foundOf r) ≡ searchOutcome r
@@ -98,7 +98,7 @@ module _ (s : List ℕ) (r : FileRead) (e : r ≡ planFile s) where
       pub part-is : b ≡ readingsPart s
       part-is = p ∙ ap (λ (x : FileRead). partOf s (x .start) (x .len)) e
 
-      pub number-is : n ≡ readNumber s (length out)
+      pub number-is : n ≡ readingsNumber s (length out)
       number-is = d .0 ∙ ap (λ (x : List ℕ). decodeNumber (length x) (length out)) part-is
 
       pub list-is : out′ ≡ fileReadings s out
@@ -108,13 +108,13 @@ module _ (s : List ℕ) (r : FileRead) (e : r ≡ planFile s) where
       pub read-wrong : (n ≡ 0 → ⊥) → (refusedWith n ≡ readOutcome s (length out)) × (out′ ≡ fileReadings s out)
       unfolding readOutcome
       read-wrong k =
-          let q : refusedWith n ≡ pick (eqb (readNumber s (length out)) 0) (given 0 0 (length (readingsPart s) / 2)) (refusedWith (readNumber s (length out))) = rw (← number-is, ne-eqb n 0 k) refl in
+          let q : refusedWith n ≡ pick (eqb (readingsNumber s (length out)) 0) (given 0 0 (length (readingsPart s) / 2)) (refusedWith (readingsNumber s (length out))) = rw (← number-is, ne-eqb n 0 k) refl in
           (q ∙ some _ refusedWith, list-is)
 
       pub read-some : n ≡ 0 → (given 0 0 (length b / 2) ≡ readOutcome s (length out)) × (out′ ≡ fileReadings s out)
       unfolding readOutcome
       read-some k =
-          let q : given 0 0 (length b / 2) ≡ pick (eqb (readNumber s (length out)) 0) (given 0 0 (length (readingsPart s) / 2)) (refusedWith (readNumber s (length out))) =
+          let q : given 0 0 (length b / 2) ≡ pick (eqb (readingsNumber s (length out)) 0) (given 0 0 (length (readingsPart s) / 2)) (refusedWith (readingsNumber s (length out))) =
           rw (← number-is, eq-eqb n 0 k) (ap (λ (x : List ℕ). given 0 0 (length x / 2)) part-is) in
           (q ∙ some _ refusedWith, list-is)
 

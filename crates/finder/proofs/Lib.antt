@@ -3,3 +3,4 @@ pub mod Numbers
 pub mod Fit
 pub mod Segment
 pub mod Prefix
+pub mod Program

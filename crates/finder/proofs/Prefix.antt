@@ -18,7 +18,7 @@ use Rattle.files.specs.Sizes.{counts-small, plan-length}
 use Rattle.files.specs.Writer.{planLength}
 use Rattle.files.proofs.Back.{file-back}
 use Rattle.files.proofs.Prefix.{fileBound, prefix-decides}
-use Rattle.finder.specs.Finder.{onPlan, fileResult}
+use Rattle.finder.specs.Finder.{onPlan, fileResult, resultBytes, programBytes}
 use Rattle.finder.proofs.Calls.{none}
 
 module _ (s : List ℕ) (f : AllBytes s) (n : ℕ) (h : fileBound ≤ n) where
@@ -36,3 +36,8 @@ module _ (s : List ℕ) (f : AllBytes s) (n : ℕ) (h : fileBound ≤ n) where
           let c = counts-small (planFile s .plan) (m .passes) in
           let l : length s ≤ fileBound = omega (arith, sym (ap length (m .bytes)) ∙ plan-length (planFile s .plan) (readingsOf (readingsPart s)), c .0, c .1, count-is (length (readingsOf (readingsPart s))) (m .counts) .1) in
           ap (λ (x : List ℕ). fileResult x room words numbers) (take-all n s (omega (arith, l, h)))
+
+-- so the program writes the answer of a file of which it reads as many bytes as its buffer has
+pub program-alike : (s : List ℕ) → AllBytes s → programBytes (take 65536 s) ≡ programBytes s
+unfolding programBytes
+program-alike s f = ap resultBytes (answer-alike s f 65536 (omega arith) 4096 7680 16000)

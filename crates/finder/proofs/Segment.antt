@@ -29,7 +29,7 @@ use Rattle.answers.specs.Runs.{isRefusal}
 use Rattle.answers.specs.Lengths.{answer-length}
 use Rattle.answers.specs.Writer.{answerBytes, refusalBytes, answerLength, answerNumber, refusalNumber, answerWritten, afterAnswer, refusalWritten, afterRefusal}
 use Rattle.finder.specs.declared.Outcome.{Outcome}
-use Rattle.finder.specs.Finder.{refusedWith, writtenOutcome, onPlan, fileWords, readNumber, fileReadings, fileResult, resultBytes, roomNumber, segmentOutcome, afterSegment}
+use Rattle.finder.specs.Finder.{refusedWith, writtenOutcome, onPlan, fileWords, readingsNumber, fileReadings, fileResult, resultBytes, roomNumber, segmentOutcome, afterSegment}
 use Rattle.finder.specs.Parts.{runsIn, foundWritten, afterFound}
 use Rattle.finder.proofs.Calls.{none, some, part-is, number-is, list-is}
 use Rattle.finder.proofs.Numbers.{listed, answerListed, file-listed}
@@ -200,12 +200,3 @@ module _ (s : List ℕ) (r : FileRead) (e : r ≡ planFile s) (zs : List ℤ) (w
               ),
             ),
           )
-
--- no more bytes are written than there is room for
-pub count-low : (r : Result) (room : ℕ) (o : Outcome) → o ≡ segmentOutcome r room → o .count ≤ room
-unfolding segmentOutcome roomNumber outcome
-count-low r room o k = rw k (go (leb (length (resultBytes r)) room) refl)
-  where
-    go : (b : Bool) → leb (length (resultBytes r)) room ≡ b → writtenOutcome (outcome (pick b 0 15) (length (resultBytes r))) .count ≤ room
-    go true e = leb-true (length (resultBytes r)) room e
-    go false e = omega arith

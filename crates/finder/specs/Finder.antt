@@ -15,6 +15,7 @@ use Rattle.fields.specs.Put.{outcome, written, writtenNumber, writtenBytes}
 use Rattle.fields.specs.declared.Written.{Written}
 use Rattle.files.specs.Reader.{planFile, readingsPart}
 use Rattle.files.specs.Writer.{planWritten, afterWriting}
+use Rattle.answers.specs.Reader.{readNumber}
 use Rattle.answers.specs.Writer.{answerBytes, refusalBytes}
 use Rattle.answers.specs.declared.AnswerRead.{AnswerRead}
 use Rattle.answers.specs.declared.AnswerRead.the-variants.{Runs, Refusal, Unread}
@@ -40,10 +41,24 @@ pointOutcome (refused n) = refusedWith n
 abbrev pub writtenOutcome : Written → Outcome
 writtenOutcome w = given (writtenNumber w) 0 (writtenBytes w)
 
+-- of an answer file that was read: the refusal that it holds, 0 for none; else the cost and how many runs
+abbrev pub heldNumber : AnswerRead → ℕ
+heldNumber (Runs c k) = 0
+heldNumber (Refusal n) = n
+heldNumber (Unread n) = 0
+
+abbrev pub heldCost : AnswerRead → ℕ
+heldCost (Runs c k) = c
+heldCost (Refusal n) = 0
+heldCost (Unread n) = 0
+
+abbrev pub heldRuns : AnswerRead → ℕ
+heldRuns (Runs c k) = k
+heldRuns (Refusal n) = 0
+heldRuns (Unread n) = 0
+
 abbrev pub replyOf : AnswerRead → Reply
-replyOf (Runs c k) = record { refusal = 0; held = 0; cost = c; count = k }
-replyOf (Refusal n) = record { refusal = 0; held = n; cost = 0; count = 0 }
-replyOf (Unread n) = record { refusal = n; held = 0; cost = 0; count = 0 }
+replyOf a = record { refusal = readNumber a; held = heldNumber a; cost = heldCost a; count = heldRuns a }
 
 -- ---- the plan of a file
 
@@ -65,12 +80,12 @@ fileWords s r ws = onPlan (planFile s .answer) (wordsAfter (planFile s .plan) r 
 -- ---- the readings of a file
 
 -- the refusal of decoding them into a list of room readings
-abbrev pub readNumber : List ℕ → ℕ → ℕ
-readNumber s room = decodeNumber (length (readingsPart s)) room
+abbrev pub readingsNumber : List ℕ → ℕ → ℕ
+readingsNumber s room = decodeNumber (length (readingsPart s)) room
 
 -- the reader's refusal, then the decoder's, or how many they are
 unfoldable pub readOutcome : List ℕ → ℕ → Outcome
-readOutcome s room = onPlan (planFile s .answer) (pick (eqb (readNumber s room) 0) (given 0 0 (length (readingsPart s) / 2)) (refusedWith (readNumber s room))) refusedWith
+readOutcome s room = onPlan (planFile s .answer) (pick (eqb (readingsNumber s room) 0) (given 0 0 (length (readingsPart s) / 2)) (refusedWith (readingsNumber s room))) refusedWith
 
 unfoldable pub fileReadings : List ℕ → List ℤ → List ℤ
 fileReadings s out = onPlan (planFile s .answer) (decoded (readingsPart s) out) (λ n. out)
@@ -89,7 +104,7 @@ afterRewriting s zs out = onPlan (planFile s .answer) (afterWriting (planFile s 
 unfoldable pub fileResult : List ℕ → ℕ → ℕ → ℕ → Result
 fileResult s room words numbers =
     onPlan (planFile s .answer)
-    (pick (eqb (readNumber s room) 0) (searchResult (planFile s .plan) (readingsOf (readingsPart s)) words numbers) (refused (readNumber s room)))
+    (pick (eqb (readingsNumber s room) 0) (searchResult (planFile s .plan) (readingsOf (readingsPart s)) words numbers) (refused (readingsNumber s room)))
     refused
 
 -- "An answer file is 81 and one or more 82, or one 83 alone."
@@ -106,3 +121,14 @@ segmentOutcome r room = writtenOutcome (outcome (roomNumber (resultBytes r) room
 
 unfoldable pub afterSegment : Result → List ℕ → List ℕ
 afterSegment r out = written (roomNumber (resultBytes r) (length out)) (resultBytes r) out
+
+-- ---- what the program `segment` lends
+
+-- "It lends a workspace of 7,680 words, 16,000 run numbers and no buffer above 64 KiB", and room for the 4,096 readings that a record may have:
+-- the answer file that it writes
+unfoldable pub programBytes : List ℕ → List ℕ
+programBytes s = resultBytes (fileResult s 4096 7680 16000)
+
+-- bytes at the front of a list, the rest as it was
+unfoldable pub atFront : List ℕ → List ℕ → List ℕ
+atFront bs out = bs ++ drop (length bs) out

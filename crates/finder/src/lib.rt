@@ -12,7 +12,7 @@ ghost use lib.ListN.{length, take};
 ghost use Rattle.search.specs.Search.{runsAfter};
 ghost use Rattle.answers.specs.Reader.{readAnswer, filled};
 ghost use Rattle.answers.specs.Writer.{answerWritten, afterAnswer, refusalWritten, afterRefusal};
-ghost use Rattle.finder.specs.Finder.{given, refusedWith, writtenOutcome, replyOf, searchOutcome, pointOutcome, searchFile, pointFile, fileWords, readOutcome, fileReadings, rewritten, afterRewriting, fileResult, segmentOutcome, afterSegment};
+ghost use Rattle.finder.specs.Finder.{given, refusedWith, writtenOutcome, replyOf, searchOutcome, pointOutcome, searchFile, pointFile, fileWords, readOutcome, fileReadings, rewritten, afterRewriting, fileResult, segmentOutcome, afterSegment, programBytes, atFront};
 ghost use Rattle.finder.specs.Parts.{foundOutcome, costOutcome, runsIn, foundWritten, afterFound};
 
 // What a call gives: its refusal, 0 where there is none; a cost; and how many runs, readings or bytes it wrote.
@@ -32,11 +32,11 @@ pub struct Reply {
     pub count: usize,
 }
 
-fn refused(n: u8) -> Outcome
-    ensures { λ r. ⌜ r ≡ refusedWith n ⌝ }
+fn refused(number: u8) -> Outcome
+    ensures { λ r. ⌜ r ≡ refusedWith number ⌝ }
 {
     Outcome {
-        refusal: n,
+        refusal: number,
         cost: 0,
         count: 0,
     }
@@ -262,4 +262,16 @@ pub extern "C" fn yeldaski_segment(
     read_grid(plan);
     let f = search::search(plan, &readings[..n], workspace, runs);
     written(write_found(f, runs, out))
+}
+
+// The answer file of a plan file with what the program `segment` lends; how many bytes it has. The lent bytes are enough for every answer.
+pub fn answer_file(file: &[u8], out: &mut [u8; 65536]) -> usize
+    ensures answer { λ r. ⌜ r ≡ length (programBytes (now (file .entry))) ⌝ }
+    ensures bytes { λ r. ⌜ now (out .exit) ≡ atFront (programBytes (now (file .entry))) (now (out .entry)) ⌝ }
+{
+    let mut readings = [0i16; 4096];
+    let mut workspace = [0u64; 7680];
+    let mut runs = [0i32; 16000];
+    let answer = yeldaski_segment(file, &mut readings, &mut workspace, &mut runs, out);
+    answer.count
 }

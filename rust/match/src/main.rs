@@ -3,6 +3,8 @@ mod args;
 mod cases;
 mod checks;
 mod lent;
+#[cfg(test)]
+mod program;
 mod proved;
 mod report;
 mod tally;

@@ -25,9 +25,10 @@ pub enum Answer {
     Refused(Refusal),
 }
 
-/// The words of 64 bits that a search or a cost at a point needs for so many states and levels.
+/// The words of 64 bits that a search or a cost at a point needs for so many states (1 to 8) and levels (1 to 1,024). A product that does not fit
+/// gives `usize::MAX`, which is more than can be lent.
 pub fn work_words(states: usize, levels: usize) -> usize {
-    48 * states * levels
+    states.saturating_mul(levels).saturating_mul(48)
 }
 
 /// Decodes the readings of a plan file to the front of `readings` and gives their number.
@@ -55,7 +56,8 @@ pub fn search(file: &[u8], readings: &[i16], workspace: &mut [u64], runs: &mut [
     Ok(Found { cost: o.cost, runs: o.count })
 }
 
-/// The least cost of the segmentations of `readings` that end in the named state at the named level.
+/// The least cost of the segmentations of `readings` that end in the named state at the named level. The end set is ignored, and a label that is
+/// still open at the last reading allows at most as many changes as it asks for.
 ///
 /// Refusals: those of the plan reader, then 9, 5 (state), 4 (level), 14, 16. `workspace` afterwards is as with [`search`].
 pub fn point(file: &[u8], readings: &[i16], state: u8, level: i16, workspace: &mut [u64]) -> Result<u64, Refusal> {
@@ -96,8 +98,9 @@ pub fn write_refusal(number: u8, out: &mut [u8]) -> Result<usize, Refusal> {
 
 /// Plan file in, answer file out: decodes the readings, searches, and writes the runs or the refusal met to the front of `out`.
 ///
-/// The only refusal is 15 where `out` is too short for the answer; the answer file itself may hold another one. The rest of `out`, and on refusal
-/// all of it, stays. The other buffers are left as [`read_plan`] and [`search`] leave them.
+/// The only refusal is 15 where `out` is too short for the answer, found after the other buffers were used; the answer file itself may hold another
+/// one. The rest of `out`, and on refusal all of it, stays. The other buffers are left as [`read_plan`] and [`search`] leave them; where reading the
+/// plan or decoding the readings is refused, they stay.
 pub fn segment(file: &[u8], readings: &mut [i16], workspace: &mut [u64], runs: &mut [i32], out: &mut [u8]) -> Result<usize, Refusal> {
     counted(calls::segment(file, readings, workspace, runs, out))
 }

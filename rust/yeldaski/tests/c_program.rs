@@ -12,9 +12,13 @@ answer: refusal 0, cost 0, count 22
 810008000000000000000182000800010002000003FF
 read: refusal 0, held 0, cost 1, count 1, level 3
 refusal: refusal 0, cost 0, count 4
-read: refusal 0, held 16
+read: refusal 0, held 16, cost 0, count 0
 segment: refusal 0, cost 0, count 22
 810008000000000000000182000800010002000003FF
+none: 1 1 1 1 17 15 15 15 9 15 9 14 15 9 14 15
+read: refusal 1, held 0, cost 0, count 0
+segment: refusal 0, cost 0, count 4
+8300010F
 ";
 
 #[test]
@@ -26,7 +30,7 @@ fn example_in_c() {
         .args(["-std=c99", "-Wall", "-Wextra", "-pedantic", "-Werror", "-I"])
         .arg(root.join("include"))
         .arg(package.join("tests/example.c"))
-        .arg(root.join("target/staticlib/libfinder.a"))
+        .arg(env!("LIBFINDER"))
         .arg("-o")
         .arg(&program)
         .status()

@@ -1,4 +1,4 @@
-/* The whole example of the scope paper: plan file in, answer file out, in hexadecimal. */
+/* The whole example of the scope paper, plan file in, answer file out, in hexadecimal; and every call with lists that are not there. */
 #include <stdio.h>
 #include <string.h>
 #include "yeldaski.h"
@@ -13,6 +13,36 @@ static void show(const char *name, const yeldaski_outcome *o) {
 static void print_bytes(const uint8_t *bytes, size_t count) {
     for (size_t i = 0; i < count; i++) printf("%02X", bytes[i]);
     printf("\n");
+}
+
+/* NULL with a length of 0 for every list, and for each list of a plan's calls alone. */
+static void no_lists(int16_t *readings, uint64_t *workspace, int32_t *runs) {
+    uint8_t out[4];
+    yeldaski_outcome nothing[] = {
+        yeldaski_read_plan(NULL, 0, NULL, 0),
+        yeldaski_write_plan(NULL, 0, NULL, 0, NULL, 0),
+        yeldaski_search(NULL, 0, NULL, 0, NULL, 0, NULL, 0),
+        yeldaski_point(NULL, 0, NULL, 0, 0, 0, NULL, 0),
+        yeldaski_write_answer(0, NULL, 0, NULL, 0),
+        yeldaski_write_refusal(1, NULL, 0),
+        yeldaski_segment(NULL, 0, NULL, 0, NULL, 0, NULL, 0, NULL, 0),
+        yeldaski_read_plan(plan, sizeof plan, NULL, 0),
+        yeldaski_write_plan(plan, sizeof plan, NULL, 0, out, sizeof out),
+        yeldaski_write_plan(plan, sizeof plan, readings, 2, NULL, 0),
+        yeldaski_search(plan, sizeof plan, NULL, 0, workspace, 480, runs, 10),
+        yeldaski_search(plan, sizeof plan, readings, 2, NULL, 0, runs, 10),
+        yeldaski_search(plan, sizeof plan, readings, 2, workspace, 480, NULL, 0),
+        yeldaski_point(plan, sizeof plan, NULL, 0, 0, 5, workspace, 480),
+        yeldaski_point(plan, sizeof plan, readings, 2, 0, 5, NULL, 0),
+        yeldaski_write_answer(0, runs, 5, NULL, 0),
+    };
+    printf("none:");
+    for (size_t i = 0; i < sizeof nothing / sizeof nothing[0]; i++) printf(" %u", nothing[i].refusal);
+    yeldaski_reply r = yeldaski_read_answer(NULL, 0, NULL, 0);
+    printf("\nread: refusal %u, held %u, cost %llu, count %zu\n", r.refusal, r.held, (unsigned long long)r.cost, r.count);
+    yeldaski_outcome o = yeldaski_segment(plan, sizeof plan, NULL, 0, NULL, 0, NULL, 0, out, sizeof out);
+    show("segment", &o);
+    print_bytes(out, o.count);
 }
 
 int main(void) {
@@ -37,9 +67,10 @@ int main(void) {
     o = yeldaski_write_refusal(16, out, sizeof out);
     show("refusal", &o);
     r = yeldaski_read_answer(out, o.count, again, 0);
-    printf("read: refusal %u, held %u\n", r.refusal, r.held);
+    printf("read: refusal %u, held %u, cost %llu, count %zu\n", r.refusal, r.held, (unsigned long long)r.cost, r.count);
     o = yeldaski_segment(plan, sizeof plan, readings, 2, workspace, 480, runs, 10, out, sizeof out);
     show("segment", &o);
     print_bytes(out, o.count);
+    no_lists(readings, workspace, runs);
     return 0;
 }

@@ -9,6 +9,16 @@ fn toy() -> Vec<u8> {
 }
 
 #[test]
+fn words_of_the_workspace() {
+    assert_eq!((yeldaski::work_words(1, 5), yeldaski::work_words(8, 1_024)), (WORDS, 393_216));
+    // never fewer than are asked for, whatever the numbers
+    for (states, levels) in [(usize::MAX, 1), (2, usize::MAX), (1 << 32, 1 << 32), (usize::MAX / 48 + 1, 1)] {
+        assert_eq!(yeldaski::work_words(states, levels), usize::MAX);
+    }
+    assert_eq!(yeldaski::work_words(0, usize::MAX), 0);
+}
+
+#[test]
 fn search_refuses_in_order() {
     let long = vec![0; 4_097];
     let labelled = plan_a(0, 4, 1).label(1, 4, 0).file(&[0]);

@@ -1,3 +1,4 @@
+use native.Mathlib.Omega.{arith}
 use Rattle.finder.proofs.Segment.{prefix-fits, segment-none, segment-wrong, segment-runs, segment-some}
 use lib.ListN.{length}
 use Prim.Native.Nat.{ℕ}
@@ -78,11 +79,11 @@ read-grid-requires c κs = search needs
 
 -- src/lib.rt:246:34
 slice-reshare-prefix-search : tie.Need-slice-reshare-prefix-search
-slice-reshare-prefix-search c = prefix-fits _ (c .before .before .before .before .before .before .before .before .before .before .before .before .before .args .readings .now) _ _ (c .before .before .before .before .decode .ensures) (c .before .before .if1 .left)
+slice-reshare-prefix-search c = omega (arith, prefix-fits _ (c .before .before .before .before .before .before .before .before .before .before .before .before .before .args .readings .now) _ _ (c .before .before .before .before .decode .ensures) (c .before .before .if1 .left))
 
 -- src/lib.rt:246:34
 slice-aggregate-search : tie.Need-slice-aggregate-search
-slice-aggregate-search c = sym (length-take-le _ _ (prefix-fits _ (c .before .before .before .before .before .before .before .before .before .before .before .before .before .before .args .readings .now) _ _ (c .before .before .before .before .before .decode .ensures) (c .before .before .before .if1 .left)))
+slice-aggregate-search c = sym (length-take-le _ _ (omega (arith, prefix-fits _ (c .before .before .before .before .before .before .before .before .before .before .before .before .before .before .args .readings .now) _ _ (c .before .before .before .before .before .decode .ensures) (c .before .before .before .if1 .left))))
 
 -- src/lib.rt:246:9
 search-requires : tie.Need-search-requires

@@ -1,15 +1,12 @@
-use Rattle.finder.proofs.Segment.{count-low}
-use Rattle.finder.specs.declared.Outcome.{Outcome}
+use Rattle.finder.proofs.Program.{answer-low}
 use lib.Seq.{length-take-le}
-use native.Mathlib.Omega.{arith}
-use Prim.Native.Nat.{ℕ}
-use mathlib.Core.Path.{sym, _∙_, ap}
+use mathlib.Core.Path.{sym}
 use borrow.Author.Needs.{needs}
 use Rattle.segment.proofs.main.Statement.{statement}
 use Rattle.segment.proofs.main.Tie as tie
 use Rattle.segment.proofs.main.Reads as reads
 use Rattle.segment.proofs.main.Lts as lts
-use Rattle.finder.proofs.yeldaski_segment.Reads as yeldaski-segment-reads
+use Rattle.finder.proofs.answer_file.Reads as answer-file-reads
 use Rattle.io.proofs.read_full.Reads as read-full-reads
 use Rattle.io.proofs.write_all.Reads as write-all-reads
 
@@ -21,43 +18,27 @@ slice-aggregate-read-full c = search needs
 read-full-requires : tie.Need-read-full-requires
 read-full-requires c κs = search needs
 
--- src/main.rt:13:9
+-- src/main.rt:8:33
 array-share-prefix-file : tie.Need-array-share-prefix-file
 array-share-prefix-file c = search needs
 
--- src/main.rt:13:9
-slice-aggregate-yeldaski-segment : tie.Need-slice-aggregate-yeldaski-segment
-slice-aggregate-yeldaski-segment c = search needs
+-- src/main.rt:8:33
+slice-aggregate-answer-file : tie.Need-slice-aggregate-answer-file
+slice-aggregate-answer-file c = search needs
 
--- src/main.rt:14:9
-slice-aggregate-yeldaski-segment-2 : tie.Need-slice-aggregate-yeldaski-segment-2
-slice-aggregate-yeldaski-segment-2 c = search needs
+-- src/main.rt:8:9
+answer-file-requires : tie.Need-answer-file-requires
+answer-file-requires c κs = search needs
 
--- src/main.rt:15:9
-slice-aggregate-yeldaski-segment-3 : tie.Need-slice-aggregate-yeldaski-segment-3
-slice-aggregate-yeldaski-segment-3 c = search needs
-
--- src/main.rt:16:9
-slice-aggregate-yeldaski-segment-4 : tie.Need-slice-aggregate-yeldaski-segment-4
-slice-aggregate-yeldaski-segment-4 c = search needs
-
--- src/main.rt:17:9
-slice-aggregate-yeldaski-segment-5 : tie.Need-slice-aggregate-yeldaski-segment-5
-slice-aggregate-yeldaski-segment-5 c = search needs
-
--- src/main.rt:12:9
-yeldaski-segment-requires : tie.Need-yeldaski-segment-requires
-yeldaski-segment-requires c κs = search needs
-
--- src/main.rt:20:22
+-- src/main.rt:9:22
 array-share-prefix-out : tie.Need-array-share-prefix-out
-array-share-prefix-out c = omega (arith, count-low _ _ _ (c .before .before .before .before .yeldaski-segment .ensures .0), c .before .before .before .before .yeldaski-segment .kept .1 .1 .1 .1 .0)
+array-share-prefix-out c = answer-low _ _ _ _ (c .answer-file .ensures)
 
--- src/main.rt:20:22
+-- src/main.rt:9:22
 slice-aggregate-write-all : tie.Need-slice-aggregate-write-all
-slice-aggregate-write-all c = sym (length-take-le _ _ (omega (arith, count-low _ _ _ (c .before .before .before .before .before .yeldaski-segment .ensures .0), c .before .before .before .before .before .yeldaski-segment .kept .1 .1 .1 .1 .0)))
+slice-aggregate-write-all c = sym (length-take-le _ _ (answer-low _ _ _ _ (c .before .answer-file .ensures)))
 
--- src/main.rt:20:5
+-- src/main.rt:9:5
 write-all-requires : tie.Need-write-all-requires
 write-all-requires c κs = search needs
 
@@ -72,12 +53,8 @@ main-spec =
     slice-aggregate-read-full
     read-full-requires
     array-share-prefix-file
-    slice-aggregate-yeldaski-segment
-    slice-aggregate-yeldaski-segment-2
-    slice-aggregate-yeldaski-segment-3
-    slice-aggregate-yeldaski-segment-4
-    slice-aggregate-yeldaski-segment-5
-    yeldaski-segment-requires
+    slice-aggregate-answer-file
+    answer-file-requires
     array-share-prefix-out
     slice-aggregate-write-all
     write-all-requires
