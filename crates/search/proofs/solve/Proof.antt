@@ -52,7 +52,7 @@ slice-aggregate-way-back-2 c = search needs
 
 -- src/lib.rt:153:9
 way-back-requires : tie.Need-way-back-requires
-way-back-requires c κs = (way-ready (c .before .before .before .before .before .before .before .before .before .before .before .before .before .before .before .before .before .before .before .pre) (c .before .before .before .before .before .before .before .before .before .before .before .forward .ensures) (c .before .before .before .before .before .before .best-end .ensures) (c .before .before .before .before .if1 .left), c .before .before .before .before .before .before .before .before .before .before .before .before .before .before .before .before .put-plan .ensures)
+way-back-requires c κs = (way-ready (c .before .before .before .before .before .before .before .before .before .before .before .before .before .before .before .before .before .before .before .pre) (c .before .before .before .before .before .before .before .before .before .before .before .forward .ensures) (c .before .before .before .before .before .before .best-end .ensures) (c .before .before .before .before .if1 .left), c .before .before .before .before .before .before .before .before .before .before .before .before .before .before .before .before .put-plan .ensures .coded)
 
 -- src/lib.rt:154:9
 finish-runs-requires : tie.Need-finish-runs-requires
