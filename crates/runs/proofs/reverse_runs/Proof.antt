@@ -37,13 +37,13 @@ loop-less : tie.Need-loop-less Inv-loop μ-loop
 loop-less c = omega (arith, c .before .before .before .loop-test .taken)
 
 loop-again : tie.Need-loop-again Inv-loop μ-loop
-loop-again c = (omega (arith, c .before .before .before .loop-test .taken), turned-more _ _ _ _ _ (c .before .before .before .loop-test .taken) (c .before .before .before .before .loop .inv .1) (c .before .swap-runs .ensures))
+loop-again c = (omega (arith, c .before .before .before .loop-test .taken), turned-more _ _ _ _ _ (omega (arith, c .before .before .before .loop-test .taken)) (c .before .before .before .before .loop .inv .1) (c .before .swap-runs .ensures))
 
 same-length : tie.Need-same-length Inv-loop μ-loop
 same-length c = c .before .loop .inv .1 .size
 
 returns : tie.Need-returns Inv-loop μ-loop
-returns c = turned-all _ _ _ _ (c .before .before .pre .1) (c .loop-test .left) (c .before .loop .inv .1)
+returns c = turned-all _ _ _ _ (c .before .before .pre .1) (omega (arith, c .loop-test .left)) (c .before .loop .inv .1)
 
 pub reverse-runs-spec : {M : Type 1} → statement M
 reverse-runs-spec =
