@@ -1,11 +1,11 @@
 -- Numbers of edges and labels read back, and lists of them one longer. Assumes nothing.
 use mathlib.Core.Path.{_≡_, refl, sym, _∙_, ap}
-use mathlib.Core.List.{List}
-use Prim.Native.Nat.{ℕ, _+_, _*_, _/_, _%_, _≤_, _<_}
+use mathlib.Core.List.{List, _++_}
+use Prim.Native.Nat.{ℕ, zero, suc, _+_, _-_, _*_, _/_, _%_, _≤_, _<_}
 use native.Mathlib.Omega.{arith}
 use native.Mathlib.Decide.{decLt}
-use lib.ListN.{length, getD, set, length-set}
-use lib.Seq.{getD-set-same, getD-set-other}
+use lib.ListN.{length, getD, set, length-set, length-append, List·getD-append}
+use lib.Seq.{getD-set-same, getD-set-other, getD-append-add, ext-getD}
 use Rattle.plan.specs.declared.Kind.{Kind}
 use Rattle.plan.specs.declared.Kind.the-variants.{Stay, Any, Up, Down, Abs}
 use Rattle.plan.specs.declared.Edge.{Edge}
@@ -13,7 +13,7 @@ use Rattle.plan.specs.declared.Label.{Label}
 use Rattle.plan.specs.declared.Plan.{Plan}
 use Rattle.plan.specs.Build.{kindNumber, gapOf}
 use Rattle.model.specs.Model.{edgeAt, labelAt}
-use Rattle.coded.specs.Coded.{kindWith, edgeIn, labelIn, EdgesFrom, LabelsFrom}
+use Rattle.coded.specs.Coded.{kindWith, edgeIn, labelIn, edgeNumber, labelNumber, EdgesFrom, LabelsFrom, Numbered, listed, codeOf}
 
 kind-back : (k : Kind) → kindWith (kindNumber k) (gapOf k) ≡ k
 kind-back Stay = refl
@@ -31,6 +31,9 @@ kind-low (Abs g) = omega arith
 
 abbrev pub mk : ℕ → ℕ → Kind → ℕ → Edge
 mk f t k c = record { from = f; to = t; kind = k; class = c }
+
+pub edge-number-is : (e : Edge) (n g : ℕ) → n ≡ kindNumber (e .kind) → g ≡ gapOf (e .kind) → e .from + 256 * e .to + 65536 * e .class + 16777216 * n + 4294967296 * g ≡ edgeNumber e
+edge-number-is e n g en eg = omega arith
 
 pub edge-back : (e : Edge) (n g : ℕ) → n ≡ kindNumber (e .kind) → g ≡ gapOf (e .kind) → e .from < 256 → e .to < 256 → e .class < 256 → g < 65536
     → edgeIn (e .from + 256 * e .to + 65536 * e .class + 16777216 * n + 4294967296 * g) ≡ e
@@ -111,3 +114,63 @@ labels-more P n w code h f e = record {
     go i g (no d) =
         let z : i ≡ n = omega arith in
         ap (λ (k : ℕ). labelIn (getD (set code (32 + n) w) (32 + k) 0)) z ∙ ap labelIn (getD-set-same code (32 + n) w 0 (omega (arith, f .front .size))) ∙ e ∙ ap (labelAt P) (sym z)
+
+-- ---- the list is the plan's
+
+pub numbered-none : (P : Plan) (code : List ℕ) → Numbered P 0 0 code
+numbered-none P code = record { edge = λ i h. absurd (omega arith); label = λ i h. absurd (omega arith) }
+
+pub numbered-edge : (P : Plan) (n w : ℕ) (code : List ℕ) → n < 32 → length code ≡ 96 → Numbered P n 0 code → w ≡ edgeNumber (edgeAt P n) → Numbered P (n + 1) 0 (set code n w)
+numbered-edge P n w code h z f e = record { edge = λ i g. go i g (decLt i n); label = λ i g. absurd (omega arith) }
+  where
+    go : (i : ℕ) → i < n + 1 → Dec (i < n) → getD (set code n w) i 0 ≡ edgeNumber (edgeAt P i)
+    go i g (yes d) = getD-set-other code n i w 0 (λ q. omega arith) ∙ f .edge i d
+    go i g (no d) =
+        let q : i ≡ n = omega arith in
+        ap (λ (k : ℕ). getD (set code n w) k 0) q ∙ getD-set-same code n w 0 (omega arith) ∙ e ∙ ap (λ (k : ℕ). edgeNumber (edgeAt P k)) (sym q)
+
+pub numbered-label : (P : Plan) (n w : ℕ) (code : List ℕ) → n < 64 → length code ≡ 96 → Numbered P 32 n code → w ≡ labelNumber (labelAt P n) → Numbered P 32 (n + 1) (set code (32 + n) w)
+numbered-label P n w code h z f e = record { edge = λ i g. getD-set-other code (32 + n) i w 0 (λ q. omega arith) ∙ f .edge i g; label = λ i g. go i g (decLt i n) }
+  where
+    go : (i : ℕ) → i < n + 1 → Dec (i < n) → getD (set code (32 + n) w) (32 + i) 0 ≡ labelNumber (labelAt P i)
+    go i g (yes d) = getD-set-other code (32 + n) (32 + i) w 0 (λ q. omega arith) ∙ f .label i d
+    go i g (no d) =
+        let q : i ≡ n = omega arith in
+        ap (λ (k : ℕ). getD (set code (32 + n) w) (32 + k) 0) q ∙ getD-set-same code (32 + n) w 0 (omega arith) ∙ e ∙ ap (λ (k : ℕ). labelNumber (labelAt P k)) (sym q)
+
+listed-length : (f : ℕ → ℕ) (i n : ℕ) → length (listed f i n) ≡ n
+unfolding listed
+listed-length f i zero = refl
+listed-length f i (suc n) = ap suc (listed-length f (i + 1) n)
+
+listed-get : (f : ℕ → ℕ) (i n k j : ℕ) → i + k ≡ j → k < n → getD (listed f i n) k 0 ≡ f j
+unfolding listed
+listed-get f i zero k j e h = absurd (omega arith)
+listed-get f i (suc n) zero j e h = let q : i ≡ j = omega arith in ap f q
+listed-get f i (suc n) (suc k) j e h = listed-get f (i + 1) n k j (omega arith) (omega arith)
+
+pub numbered-is : (P : Plan) (code : List ℕ) → length code ≡ 96 → Numbered P 32 64 code → code ≡ codeOf P
+numbered-is P code z f = ext-getD 0 code (codeOf P) (z ∙ sym size) same
+  where
+    edges : List ℕ
+    edges = listed (λ (i : ℕ). edgeNumber (edgeAt P i)) 0 32
+
+    labels : List ℕ
+    labels = listed (λ (i : ℕ). labelNumber (labelAt P i)) 0 64
+
+    n : length edges ≡ 32
+    n = listed-length (λ (i : ℕ). edgeNumber (edgeAt P i)) 0 32
+
+    size : length (edges ++ labels) ≡ 96
+    size = length-append edges labels ∙ omega (arith, n, listed-length (λ (i : ℕ). labelNumber (labelAt P i)) 0 64)
+
+    same : (i : ℕ) → i < length code → getD code i 0 ≡ getD (edges ++ labels) i 0
+    same i h = go (decLt i 32)
+      where
+        go : Dec (i < 32) → getD code i 0 ≡ getD (edges ++ labels) i 0
+        go (yes d) = f .edge i d ∙ sym (listed-get (λ (k : ℕ). edgeNumber (edgeAt P k)) 0 32 i i (omega arith) d) ∙ sym (List·getD-append edges labels 0 i (omega (arith, n)))
+        go (no d) =
+            let q : 32 + (i - 32) ≡ i = omega arith in
+            let e : length edges + (i - 32) ≡ i = omega (arith, n) in
+            ap (λ (k : ℕ). getD code k 0) (sym q) ∙ f .label (i - 32) (omega arith) ∙ sym (listed-get (λ (k : ℕ). labelNumber (labelAt P k)) 0 64 (i - 32) (i - 32) (omega arith) (omega arith))
+            ∙ sym (getD-append-add edges labels (i - 32) 0) ∙ ap (λ (k : ℕ). getD (edges ++ labels) k 0) e

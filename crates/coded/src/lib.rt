@@ -7,28 +7,23 @@ use plan::Plan;
 ghost use mathlib.Core.Path.{_≡_};
 ghost use Prim.Native.Nat.{_+_, _<_};
 ghost use lib.ListN.{length, getD};
-ghost use Rattle.coded.specs.Coded.{kindWith, edgeIn, labelIn, Coded, EdgesFrom};
+ghost use Rattle.coded.specs.Coded.{kindWith, edgeIn, labelIn, edgeNumber, labelNumber, EdgesFrom, Numbered, Written};
 
 // The numbers of a list: 32 edges, then 64 labels.
-pub const SIZE: usize = 96;
+pub const SIZE: usize = Plan::MAX_EDGES + Plan::MAX_LABELS;
 
-// The kind with this number, at this gap.
-fn kind_with(number: u64, gap: u16) -> Kind
+// The kind with this number, at this gap. A number that no kind has stands in no list that `put_plan` wrote; it is read as stay.
+fn kind_with(number: u8, gap: u16) -> Kind
     ensures { λ r. ⌜ r ≡ kindWith number gap ⌝ }
 {
-    if number == 0 {
-        return Kind::Stay;
+    match number {
+        0 => Kind::Stay,
+        1 => Kind::Any,
+        2 => Kind::Up(gap),
+        3 => Kind::Down(gap),
+        4 => Kind::Abs(gap),
+        5..=255 => Kind::Stay,
     }
-    if number == 1 {
-        return Kind::Any;
-    }
-    if number == 2 {
-        return Kind::Up(gap);
-    }
-    if number == 3 {
-        return Kind::Down(gap);
-    }
-    Kind::Abs(gap)
 }
 
 // Edge i.
@@ -38,7 +33,8 @@ pub fn edge_in(code: &[u64], i: usize) -> Edge
 {
     let w = code[i];
     let gap = (w / 4294967296 % 65536) as u16;
-    let kind = kind_with(w / 16777216 % 256, gap);
+    let number = (w / 16777216 % 256) as u8;
+    let kind = kind_with(number, gap);
     Edge {
         from: (w % 256) as u8,
         to: (w / 256 % 256) as u8,
@@ -52,7 +48,7 @@ pub fn label_in(code: &[u64], i: usize) -> Label
     requires { ⌜ 32 + i < length (now code) ⌝ }
     ensures { λ r. ⌜ r ≡ labelIn (getD (now (code .entry)) (32 + i) 0) ⌝ }
 {
-    let w = code[32 + i];
+    let w = code[Plan::MAX_EDGES + i];
     Label {
         p: (w % 65536) as u16,
         q: (w / 65536 % 65536) as u16,
@@ -62,7 +58,7 @@ pub fn label_in(code: &[u64], i: usize) -> Label
 
 // The number of an edge: from, to, class and kind with 8 bits each, lowest first, and the gap above them.
 fn edge_number(e: Edge) -> u64
-    ensures { λ r. ⌜ edgeIn r ≡ e ⌝ }
+    ensures { λ r. ⌜ (r ≡ edgeNumber e) × (edgeIn r ≡ e) ⌝ }
 {
     let kind = e.kind;
     let number = plan::kind_number(kind) as u64;
@@ -73,17 +69,17 @@ fn edge_number(e: Edge) -> u64
 
 // The number of a label: p and q with 16 bits each, lowest first, and c above them.
 fn label_number(l: Label) -> u64
-    ensures { λ r. ⌜ labelIn r ≡ l ⌝ }
+    ensures { λ r. ⌜ (r ≡ labelNumber l) × (labelIn r ≡ l) ⌝ }
 {
     (l.p as u64) + 65536 * (l.q as u64) + 4294967296 * (l.c as u64)
 }
 
 fn put_edges(plan: Plan, code: &mut [u64])
     requires { ⌜ length (now code) ≡ 96 ⌝ }
-    ensures { λ r. ⌜ EdgesFrom plan 32 (now (code .exit)) ⌝ }
+    ensures { λ r. ⌜ EdgesFrom plan 32 (now (code .exit)) × Numbered plan 32 0 (now (code .exit)) ⌝ }
 {
     let mut i = 0;
-    while i < 32 {
+    while i < Plan::MAX_EDGES {
         let e = plan.edges[i];
         code[i] = edge_number(e);
         i += 1;
@@ -91,13 +87,13 @@ fn put_edges(plan: Plan, code: &mut [u64])
 }
 
 fn put_labels(plan: Plan, code: &mut [u64])
-    requires { ⌜ EdgesFrom plan 32 (now code) ⌝ }
-    ensures { λ r. ⌜ Coded plan (now (code .exit)) ⌝ }
+    requires { ⌜ EdgesFrom plan 32 (now code) × Numbered plan 32 0 (now code) ⌝ }
+    ensures { λ r. ⌜ Written plan (now (code .exit)) ⌝ }
 {
     let mut i = 0;
-    while i < 64 {
+    while i < Plan::MAX_LABELS {
         let l = plan.labels[i];
-        code[32 + i] = label_number(l);
+        code[Plan::MAX_EDGES + i] = label_number(l);
         i += 1;
     }
 }
@@ -105,7 +101,7 @@ fn put_labels(plan: Plan, code: &mut [u64])
 // The edges and labels of a plan, put in a list.
 pub fn put_plan(plan: Plan, code: &mut [u64])
     requires { ⌜ length (now code) ≡ 96 ⌝ }
-    ensures { λ r. ⌜ Coded plan (now (code .exit)) ⌝ }
+    ensures { λ r. ⌜ Written plan (now (code .exit)) ⌝ }
 {
     put_edges(plan, code);
     put_labels(plan, code);

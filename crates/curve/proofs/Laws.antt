@@ -1,11 +1,11 @@
 -- What the stores of the functions come to. Assumes nothing.
 use mathlib.Core.Path.{_≡_, refl, sym, ap, _∙_, subst}
 use mathlib.Core.Logic.{_⊎_, inl, inr, ⊎-elim}
-use mathlib.Core.List.{List}
+use mathlib.Core.List.{List, _++_}
 use Prim.Native.Nat.{ℕ, zero, suc, _+_, _*_, _-_, _≤_, _<_}
 use native.Mathlib.Omega.{arith}
-use lib.ListN.{length, getD, set, length-set}
-use lib.Seq.{getD-set-same, getD-set-other}
+use lib.ListN.{length, getD, set, take, drop, length-set, length-drop, List·getD-append}
+use lib.Seq.{paste, getD-set-same, getD-set-other, getD-take, getD-drop, getD-append-add, length-take-le, length-paste, length-paste-head, ext-getD}
 use Rattle.integers.specs.Rep.{le-or-lt}
 use Rattle.quadratic.specs.declared.Quad.{Quad}
 use mathlib.Core.Bool.{Bool, true, false}
@@ -264,3 +264,39 @@ copying-more {ws₀} {ws} {o} {dst} {n} {i} h g a c = record {
       (λ e. getD-set-other ws (dst + i) (dst + k) (getD ws (o + i) 0) 0 (λ q. omega arith) ∙ c .word k e)
       (last-or p);
 }
+
+-- the whole list after a copy
+pub copied-is : {ws ws′ : List ℕ} (o dst n : ℕ) → o + n ≤ length ws → dst + n ≤ length ws → Kept ws ws′ dst n → ((i : ℕ) → i < n → getD ws′ (dst + i) 0 ≡ getD ws (o + i) 0) → ws′ ≡ paste ws dst (drop o ws) n
+copied-is {ws} {ws′} o dst n from to k w = ext-getD 0 ws′ (paste ws dst (drop o ws) n) (k .size ∙ sym (length-paste ws dst (drop o ws) n to there)) (λ i h. ⊎-elim (λ p. same-from i p) (λ p. same-before i p) (le-or-lt dst i))
+  where
+    there : n ≤ length (drop o ws)
+    there = omega (arith, length-drop o ws)
+
+    head : List ℕ
+    head = take dst ws ++ take n (drop o ws)
+
+    m : length head ≡ dst + n
+    m = length-paste-head ws dst (drop o ws) n (omega arith) there
+
+    t : length (take dst ws) ≡ dst
+    t = length-take-le dst ws (omega arith)
+
+    same-before : (i : ℕ) → i < dst → getD ws′ i 0 ≡ getD (head ++ drop (dst + n) ws) i 0
+    same-before i p =
+        k .before i p ∙ sym (getD-take dst ws i 0 p) ∙ sym (List·getD-append (take dst ws) (take n (drop o ws)) 0 i (omega (arith, t))) ∙ sym (List·getD-append head (drop (dst + n) ws) 0 i (omega (arith, m)))
+
+    same-from : (i : ℕ) → dst ≤ i → getD ws′ i 0 ≡ getD (head ++ drop (dst + n) ws) i 0
+    same-from i p = ⊎-elim after inside (le-or-lt (dst + n) i)
+      where
+        after : dst + n ≤ i → getD ws′ i 0 ≡ getD (head ++ drop (dst + n) ws) i 0
+        after q =
+            let e : dst + n + (i - (dst + n)) ≡ i = omega arith in
+            let x : length head + (i - (dst + n)) ≡ i = omega (arith, m) in
+            k .after i q ∙ ap (λ (j : ℕ). getD ws j 0) (sym e) ∙ sym (getD-drop (dst + n) ws (i - (dst + n)) 0) ∙ sym (getD-append-add head (drop (dst + n) ws) (i - (dst + n)) 0) ∙ ap (λ (j : ℕ). getD (head ++ drop (dst + n) ws) j 0) x
+
+        inside : i < dst + n → getD ws′ i 0 ≡ getD (head ++ drop (dst + n) ws) i 0
+        inside q =
+            let e : dst + (i - dst) ≡ i = omega arith in
+            let x : length (take dst ws) + (i - dst) ≡ i = omega (arith, t) in
+            ap (λ (j : ℕ). getD ws′ j 0) (sym e) ∙ w (i - dst) (omega arith) ∙ sym (getD-drop o ws (i - dst) 0) ∙ sym (getD-take n (drop o ws) (i - dst) 0 (omega arith)) ∙ sym (getD-append-add (take dst ws) (take n (drop o ws)) (i - dst) 0)
+            ∙ ap (λ (j : ℕ). getD head j 0) x ∙ sym (List·getD-append head (drop (dst + n) ws) 0 i (omega (arith, m)))

@@ -11,7 +11,7 @@ use Rattle.curve.specs.declared.Low.{Low}
 use Rattle.curve.specs.declared.Run.{Run}
 use Rattle.curve.specs.Pieces.{Emits, Appended}
 use Rattle.curve.specs.Lists.{emits-append, emits-then, emits-as}
-use Rattle.curve.specs.Lows.{top, costs, Least, LeastIn, Drops, Prefixed, Lowered, lowest, prefixOf, lowest-new, lowest-stays, lowest-falls, prefix-new, prefix-old}
+use Rattle.curve.specs.Lows.{top, noLow, costs, Least, LeastIn, Drops, Prefixed, Lowered, lowest, prefixOf, lowest-new, lowest-stays, lowest-falls, prefix-new, prefix-old}
 
 pub drops-crossed : (p : Quad) (best a v base r : ℕ) → a ≤ v → Over (flat best) p (base + v) → Stays (flat best) p (base + a) (base + v) r → Drops p best a v base (r - base + 1)
 drops-crossed p best a v base r h o t = record {
@@ -113,10 +113,10 @@ module _ (best : Low) (p : Quad) (a b base v w : ℕ) (whole : (u : ℕ) → bas
 pub record Till (G : ℕ → ℕ) (from to x : ℕ) (best : Low) : Type 0 where
   pub least : (m : ℕ) → from ≤ m → m ≤ to → m < x → best .value ≤ G m
   pub first : (m : ℕ) → from ≤ m → m ≤ to → m < x → m < best .level → best .value < G m
-  pub is : ((best .value ≡ top) × (best .level ≡ from)) ⊎ (((from ≤ best .level) × (best .level ≤ to)) × ((best .level < x) × (best .value ≡ G (best .level))))
+  pub is : (best ≡ noLow) ⊎ (((from ≤ best .level) × (best .level ≤ to)) × ((best .level < x) × (best .value ≡ G (best .level))))
 
-pub till-none : (G : ℕ → ℕ) (from to : ℕ) → Till G from to 0 (record { value = top; level = from })
-till-none G from to = record { least = λ m u t h. absurd (omega arith); first = λ m u t h. absurd (omega arith); is = inl (refl, refl) }
+pub till-none : (G : ℕ → ℕ) (from to : ℕ) → Till G from to 0 noLow
+till-none G from to = record { least = λ m u t h. absurd (omega arith); first = λ m u t h. absurd (omega arith); is = inl refl }
 
 pub till-step : (G : ℕ → ℕ) (from to x e a b base : ℕ) (p : Quad) (best r : Low) → Till G from to x best → x ≤ e → ((j : ℕ) → x ≤ j → j ≤ e → G j ≡ value p (base + j))
     → (x ≤ a) × (from ≤ a) → (a ≡ x) ⊎ (a ≡ from) → (b ≤ e) × (b ≤ to) → (b ≡ e) ⊎ (b ≡ to) → Lowered best p a b base r → Till G from to (e + 1) r
@@ -134,7 +134,7 @@ till-step G from to x e a b base p best r t h g ha ka hb kb w = ⊎-elim old new
     old : r ≡ best → Till G from to (e + 1) r
     old q = rw q (record {
       least = λ m u v y. ⊎-elim (λ z. rw q at (here m u v y z)) (λ z. t .least m u v z) (le-or-lt x m);
-      first = λ m u v y k. ⊎-elim (λ z. absurd (⊎-elim (λ c. let d = c .1 in omega arith) (λ c. let d = c .1 .0 in omega arith) (t .is))) (λ z. t .first m u v z k) (le-or-lt x m);
+      first = λ m u v y k. ⊎-elim (λ z. absurd (⊎-elim (λ c. let d = ap (λ (l : Low). l .level) c in omega arith) (λ c. let d = c .1 .0 in omega arith) (t .is))) (λ z. t .first m u v z k) (le-or-lt x m);
       is = ⊎-elim (λ c. inl c) (λ c. inr (c .0, (omega (arith, c .1 .0), c .1 .1))) (t .is);
     })
 
@@ -147,12 +147,12 @@ till-step G from to x e a b base p best r t h g ha ka hb kb w = ⊎-elim old new
 
 pub till-done : (G : ℕ → ℕ) (from to x : ℕ) (r : Low) → Till G from to x r → from ≤ to → to < x → G from < top → Least G from to r
 till-done G from to x r t h g k = ⊎-elim
-    (λ c. let z = c .0 in absurd (omega (arith, t .least from (omega arith) h (omega arith))))
+    (λ c. let z = ap (λ (l : Low). l .value) c in absurd (omega (arith, t .least from (omega arith) h (omega arith))))
     (λ c. record { low = c .0 .0; high = c .0 .1; is = c .1 .1; least = λ m u v. t .least m u v (omega arith); first = λ m u v. t .first m u (omega (arith, c .0)) (omega (arith, c .0)) v })
     (t .is)
 
 pub till-in : (G : ℕ → ℕ) (from to x : ℕ) (r : Low) → Till G from to x r → to < x → (from ≤ to → G from < top) → LeastIn G from to r
 till-in G from to x r t g k = record {
   some = λ h. till-done G from to x r t h g (k h);
-  empty = λ h. ⊎-elim (λ c. c .0) (λ c. absurd (omega (arith, c .0))) (t .is);
+  empty = λ h. ⊎-elim (λ c. c) (λ c. absurd (omega (arith, c .0))) (t .is);
 }

@@ -18,7 +18,7 @@ use Rattle.curve.specs.Pieces.{endOf, startOf, quadAt, seek, piece, none
 
 pub start-next : (ws : List ℕ) (o k : ℕ) → startOf ws o (k + 1) ≡ endOf ws o k + 1
 unfolding startOf
-start-next ws o k = rw add-one
+start-next ws o k = let e : k + 1 ≡ suc k = omega arith in ap (startOf ws o) e
 
 pub start-zero : (ws : List ℕ) (o : ℕ) → startOf ws o 0 ≡ 0
 unfolding startOf

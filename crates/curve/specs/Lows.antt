@@ -31,10 +31,14 @@ pub record Least (G : ℕ → ℕ) (from to : ℕ) (r : Low) : Type 0 where
   pub least : (m : ℕ) → from ≤ m → m ≤ to → r .value ≤ G m
   pub first : (m : ℕ) → from ≤ m → m < r .level → r .value < G m
 
--- the same on a range that may be empty: then its value is more than any
+-- what stands for the least where there is no level: more than any, at level 0
+abbrev pub noLow : Low
+noLow = record { value = top; level = 0 }
+
+-- the same on a range that may be empty
 pub record LeastIn (G : ℕ → ℕ) (from to : ℕ) (r : Low) : Type 0 where
   pub some : from ≤ to → Least G from to r
-  pub empty : to < from → r .value ≡ top
+  pub empty : to < from → r ≡ noLow
 
 -- the least of G at the levels below j, and top where there are none
 unfoldable pub lowest : (ℕ → ℕ) → ℕ → ℕ
@@ -90,17 +94,7 @@ lowest-falls G s h (suc i) f =
     let l : lowest G (s + i + 1) ≡ G (s + i) = lowest-new G (s + i) (lowest-falls G s h i (λ j u v. f j u (omega arith))) in
     rw (z, l) (f (s + i) (omega arith) (omega arith))
 
--- it is at most each
-pub lowest-least : (G : ℕ → ℕ) (j i : ℕ) → i < j → lowest G j ≤ G i
-lowest-least G zero i h = absurd (omega arith)
-lowest-least G (suc j) i h =
-    let z : suc j ≡ j + 1 = omega arith in
-    rw z (⊎-elim
-    (λ p. rw (lowest-old G j p) (⊎-elim (λ q. let e : i ≡ j = omega arith in rw e p) (λ q. lowest-least G j i q) (le-or-lt j i)))
-    (λ p. rw (lowest-new G j p) (⊎-elim (λ q. let e : i ≡ j = omega arith in rw e (omega arith)) (λ q. omega (arith, lowest-least G j i q)) (le-or-lt j i)))
-    (le-or-lt (lowest G j) (G j)))
-
--- and it is one of them
+-- it is top, or one of them
 pub record Among (G : ℕ → ℕ) (j : ℕ) : Type 0 where
   pub at : ℕ
   pub inside : at < j

@@ -6,7 +6,8 @@ use mathlib.Core.Bool.{Bool, true, false, cond}
 use mathlib.Core.List.{List}
 use Prim.Native.Nat.{ℕ, zero, suc, _+_, _*_, _-_, _≤_, _<_}
 use lib.Dec.{leb, eqb}
-use lib.ListN.{length, getD}
+use lib.ListN.{length, getD, drop}
+use lib.Seq.{paste}
 use Rattle.quadratic.specs.declared.Quad.{Quad}
 use Rattle.quadratic.specs.Fine.{pickN}
 use Rattle.quadratic.specs.Quad.{Sized, pick, flat, none, moved, mirrored, better}
@@ -131,3 +132,4 @@ pub record Copied (ws ws′ : List ℕ) (o dst L r : ℕ) : Type 0 where
   pub count : (f : Formed ws o L) → r ≡ f .count
   pub kept : Kept ws ws′ dst (4 * r)
   pub word : (i : ℕ) → i < 4 * r → getD ws′ (dst + i) 0 ≡ getD ws (o + i) 0
+  pub is : ws′ ≡ paste ws dst (drop o ws) (4 * r)

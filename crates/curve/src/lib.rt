@@ -59,7 +59,7 @@ fn same(p: Quad, q: Quad) -> bool
 }
 
 // One piece more after the n at dst, or the last one longer.
-pub fn append(ws: &mut [u64], dst: usize, n: usize, end: u64, q: Quad) -> usize
+fn append(ws: &mut [u64], dst: usize, n: usize, end: u64, q: Quad) -> usize
     requires { ⌜ dst + 4 * (n + 1) ≤ length (now ws) ⌝ }
     ensures { λ r. ⌜ Appended (now (ws .entry)) (now (ws .exit)) dst n end q r ⌝ }
 {
@@ -326,7 +326,7 @@ pub struct Low {
 }
 
 // How many pieces there are, and the least value so far.
-pub struct Run {
+struct Run {
     pub n: usize,
     pub best: u64,
 }
@@ -423,7 +423,7 @@ fn lower(best: Low, p: Quad, a: u64, b: u64, base: u64) -> Low
     }
 }
 
-// The least of f at the levels from .. to, and the lowest level that has it; more than none where there is no such level.
+// The least of f at the levels from .. to, and the lowest level that has it; more than none, at level 0, where there is no such level.
 pub fn least_in(ws: &[u64], f: usize, from: u64, to: u64, levels: u64, base: u64) -> Low
     requires { ⌜ Held (now ws) f levels × (base + levels ≤ 262144) ⌝ }
     requires { ⌜ to < levels ⌝ }
@@ -432,7 +432,7 @@ pub fn least_in(ws: &[u64], f: usize, from: u64, to: u64, levels: u64, base: u64
 {
     let mut best = Low {
         value: quadratic::NONE + 1,
-        level: from,
+        level: 0,
     };
     let mut i: usize = 0;
     let mut x: u64 = 0;

@@ -17,7 +17,6 @@ use Rattle.curve.specs.Lows.{lowest, prefixOf, costs, LeastIn, Least}
 use Rattle.curve.specs.Curve.{Curve, Limits, curve-as, curve-prefix, curve-shift, curve-mirror, curve-least, curve-loss, curve-flat, curve-wider, curve-costs, curve-none, curve-most, curve-value, curve-least-in}
 use Rattle.plan.specs.declared.Kind.{Kind}
 use Rattle.plan.specs.declared.Kind.the-variants.{Stay, Any, Up, Down, Abs}
-use Rattle.plan.specs.Build.{gapOf}
 use Rattle.model.specs.Index.{noCost, prefixMin, suffixMin, upMin, downMin, edgeMin, edge-min, edge-min-none, prefix-met, prefix-least}
 use Rattle.model.specs.Held.{raise}
 use Rattle.edges.specs.Edge.{Into, Joint, Hand, Sound, Ready, Spared, Moved, Joined, Taken, WithLoss, anyMin, kept-off, spared-refl, spared-then, spared-curve, spared-swap, apart-swap, hand-swap, min-regroup, raise-min, raise-none, less-min, plus-raise, lowest-prefix}
@@ -224,16 +223,6 @@ none-taken {pen} {base} {L} {f} {acc} {next} {work} {ws} k e = record {
 
     offers : {A C : ℕ} {G : ℕ → ℕ} → Limits A C base L → Curve A C base L ws f G → (j : ℕ) → j < L → none ≤ edgeMin L k G j
     offers {G = G} l c j i = edge-min-none L (omega arith) k G j i (λ x g p. omega (arith, curve-none l c e x g))
-
--- ---- the gap of a kind
-pub gap-up : (k : Kind) (g : ℕ) → k ≡ Up g → gapOf k ≤ 1023 → g < 1024
-gap-up k g e h = omega (arith, rw e at h)
-
-pub gap-down : (k : Kind) (g : ℕ) → k ≡ Down g → gapOf k ≤ 1023 → g < 1024
-gap-down k g e h = omega (arith, rw e at h)
-
-pub gap-abs : (k : Kind) (g : ℕ) → k ≡ Abs g → gapOf k ≤ 1023 → g < 1024
-gap-abs k g e h = omega (arith, rw e at h)
 
 -- ---- the loss of a reading
 pub with-loss : {w u base L f dst : ℕ} {ws ws′ : List ℕ} → 131072 ≤ base → base + L ≤ 196608 → (131072 ≤ u) × (u < 196608) → dst + 4 * L ≤ length ws → Made (λ (j : ℕ). pushed w u (piece ws f L j)) ws ws′ dst L → WithLoss w u base L ws ws′ f dst

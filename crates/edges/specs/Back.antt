@@ -11,7 +11,7 @@ use Rattle.integers.specs.Rep.{le-or-lt}
 use Rattle.quadratic.specs.Quad.{none}
 use Rattle.curve.specs.declared.Low.{Low}
 use Rattle.curve.specs.Pieces.{piece}
-use Rattle.curve.specs.Lows.{costs, top, Least, LeastIn}
+use Rattle.curve.specs.Lows.{costs, noLow, Least, LeastIn}
 use Rattle.curve.specs.Curve.{Curve, Limits}
 use Rattle.plan.specs.declared.Kind.{Kind}
 use Rattle.model.specs.Index.{noCost, edgeMin, Permitted, edge-min-is, edge-min-none}
@@ -27,10 +27,10 @@ pub record Met (P : ℕ → Type 0) (L : ℕ) (F : ℕ → ℕ) (r : Low) : Type
   pub is : r .value ≡ F (r .level)
   pub first : (i : ℕ) → i < r .level → P i → r .value < F i
 
--- r is the least of F over the levels with P, at the lowest of them that has it; more than any cost where there is none
+-- r is the least of F over the levels with P, at the lowest of them that has it; `noLow` where there is none
 pub record LeastOf (P : ℕ → Type 0) (L : ℕ) (F : ℕ → ℕ) (r : Low) : Type 0 where
   pub least : (i : ℕ) → i < L → P i → r .value ≤ F i
-  pub met : (r .value ≡ top) ⊎ Met P L F r
+  pub met : (r ≡ noLow) ⊎ Met P L F r
 
 -- what the step back needs: the edge's cost, and the level that it is taken from
 pub record Offered (L : ℕ) (k : Kind) (F : ℕ → ℕ) (j : ℕ) (r : Low) : Type 0 where
@@ -86,7 +86,7 @@ module _ {L : ℕ} (k : Kind) {F : ℕ → ℕ} (j : ℕ) {r : Low} (hj : j < L)
   offered-none h = edge-min-none L (omega arith) k F j hj (λ i g p. omega (arith, l .least i g p))
 
   pub offered : r .value < noCost → Offered L k F j r
-  offered h = ⊎-elim (λ t. absurd (omega arith)) there (l .met)
+  offered h = ⊎-elim (λ t. let z = ap (λ (x : Low). x .value) t in absurd (omega arith)) there (l .met)
     where
       there : Met (λ (i : ℕ). Permitted k i j) L F r → Offered L k F j r
       there m =

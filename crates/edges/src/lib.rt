@@ -17,7 +17,7 @@ ghost use lib.ListN.{length};
 ghost use Rattle.plan.specs.Build.{gapOf};
 ghost use Rattle.model.specs.Index.{upMin, downMin, edgeMin, Permitted};
 ghost use Rattle.curve.specs.Pieces.{piece, Apart};
-ghost use Rattle.curve.specs.Lows.{costs};
+ghost use Rattle.curve.specs.Lows.{costs, noLow};
 ghost use Rattle.curve.specs.Curve.{Limits};
 ghost use Rattle.edges.specs.Back.{LeastOf, pickLow};
 ghost use Rattle.edges.specs.Edge.{Into, Joint, Sound, Ready, Moved, Joined, Taken, anyMin, WithLoss};
@@ -122,7 +122,7 @@ fn take_down(
 }
 
 // The least so far with an edge from the list at f taken in: where it stands, which is acc or next. A list that is none everywhere
-// offers nothing.
+// offers nothing. The rule for the levels is chosen by the kind's number; the range is for numbers that no kind has.
 pub fn take_edge(
     ws: &mut [u64],
     acc: usize,
@@ -140,28 +140,31 @@ pub fn take_edge(
     if curve::all_none(ws, f, levels) {
         return acc;
     }
-    match kind {
-        Kind::Stay => {
+    let number = plan::kind_number(kind);
+    let gap = plan::gap_of(kind) as u64;
+    match number {
+        0 => {
             take(ws, acc, next, f, pen, levels, base);
             next
         }
-        Kind::Any => {
+        1 => {
             take_any(ws, acc, next, work, f, pen, levels, base);
             next
         }
-        Kind::Up(g) => {
-            take_up(ws, acc, next, work, f, g as u64, pen, levels, base);
+        2 => {
+            take_up(ws, acc, next, work, f, gap, pen, levels, base);
             next
         }
-        Kind::Down(g) => {
-            take_down(ws, acc, next, work, f, g as u64, pen, levels, base);
+        3 => {
+            take_down(ws, acc, next, work, f, gap, pen, levels, base);
             next
         }
-        Kind::Abs(g) => {
-            take_up(ws, acc, next, work, f, g as u64, pen, levels, base);
-            take_down(ws, next, acc, work, f, g as u64, pen, levels, base);
+        4 => {
+            take_up(ws, acc, next, work, f, gap, pen, levels, base);
+            take_down(ws, next, acc, work, f, gap, pen, levels, base);
             acc
         }
+        5..=255 => acc,
     }
 }
 
@@ -182,6 +185,16 @@ fn lower_of(a: Low, b: Low) -> Low
     if b.value < a.value { b } else { a }
 }
 
+// Where there is no level to be taken from.
+fn no_low() -> Low
+    ensures { λ r. ⌜ r ≡ noLow ⌝ }
+{
+    Low {
+        value: quadratic::NONE + 1,
+        level: 0,
+    }
+}
+
 // The least of f at the levels at least gap below j, with the lowest of them that has it.
 fn least_below(ws: &[u64], f: usize, gap: u64, j: u64, levels: u64, base: u64) -> Low
     requires { ⌜ Limits 1048576 18014398509481984 base levels × Sound 18014398509481984 base levels (now ws) f ⌝ }
@@ -191,10 +204,7 @@ fn least_below(ws: &[u64], f: usize, gap: u64, j: u64, levels: u64, base: u64) -
     if gap <= j {
         curve::least_in(ws, f, 0, j - gap, levels, base)
     } else {
-        Low {
-            value: quadratic::NONE + 1,
-            level: 0,
-        }
+        no_low()
     }
 }
 
@@ -214,15 +224,18 @@ pub fn least_before(ws: &[u64], f: usize, kind: Kind, j: u64, levels: u64, base:
     requires { ⌜ (j < levels) × (gapOf kind ≤ 1023) ⌝ }
     ensures { λ r. ⌜ LeastOf (λ (i : ℕ). Permitted kind i j) levels (costs base (piece (now (ws .entry)) f levels)) r ⌝ }
 {
-    match kind {
-        Kind::Stay => curve::least_in(ws, f, j, j, levels, base),
-        Kind::Any => curve::least_in(ws, f, 0, levels - 1, levels, base),
-        Kind::Up(g) => least_below(ws, f, g as u64, j, levels, base),
-        Kind::Down(g) => least_above(ws, f, g as u64, j, levels, base),
-        Kind::Abs(g) => {
-            let below = least_below(ws, f, g as u64, j, levels, base);
-            let above = least_above(ws, f, g as u64, j, levels, base);
+    let number = plan::kind_number(kind);
+    let gap = plan::gap_of(kind) as u64;
+    match number {
+        0 => curve::least_in(ws, f, j, j, levels, base),
+        1 => curve::least_in(ws, f, 0, levels - 1, levels, base),
+        2 => least_below(ws, f, gap, j, levels, base),
+        3 => least_above(ws, f, gap, j, levels, base),
+        4 => {
+            let below = least_below(ws, f, gap, j, levels, base);
+            let above = least_above(ws, f, gap, j, levels, base);
             lower_of(below, above)
         }
+        5..=255 => no_low(),
     }
 }

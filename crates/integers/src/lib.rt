@@ -1,7 +1,7 @@
 // Signed numbers: division rounded down, levels as places counted from 0, and their bytes.
 ghost use mathlib.Core.Path.{_≡_};
 ghost use Prim.Native.Nat.{_/_, _%_, _≤_, _<_};
-ghost use lib.IntN.{pos, _+ℤ_, _-ℤ_};
+ghost use lib.IntN.{pos, _+ℤ_};
 ghost use Rattle.integers.specs.Floor.{floorDiv};
 ghost use Rattle.integers.specs.Bytes.{word, signed16, bits16};
 
@@ -10,13 +10,6 @@ pub fn bias(x: i16) -> u64
     ensures { λ r. ⌜ (pos r ≡ x +ℤ pos 163840) × ((131072 ≤ r) × (r < 196608)) ⌝ }
 {
     ((x as i64) + 163840) as u64
-}
-
-// The level at a place below 262144, and of a larger number at its remainder.
-pub fn unbias(v: u64) -> i64
-    ensures { λ r. ⌜ r ≡ pos (v % 262144) -ℤ pos 163840 ⌝ }
-{
-    ((v % 262144) as i64) - 163840
 }
 
 // n / d rounded down, for every d above zero; 0 for the others.
@@ -43,7 +36,7 @@ pub fn signed16(high: u8, low: u8) -> i16
 }
 
 // The 16 bits of a signed number.
-pub fn bits16(x: i16) -> u16
+fn bits16(x: i16) -> u16
     ensures { λ r. ⌜ r ≡ bits16 x ⌝ }
 {
     let wide = x as i32;

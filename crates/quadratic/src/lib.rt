@@ -10,6 +10,7 @@ ghost use Prim.Native.Nat.{ℕ, _+_, _*_, _-_, _≤_, _<_};
 ghost use lib.Dec.{leb};
 ghost use lib.IntN.{pos, _-ℤ_};
 ghost use Rattle.quadratic.specs.Level.{Placed};
+ghost use Rattle.quadratic.specs.Places.{lowestPlace, lastUnder};
 ghost use Rattle.quadratic.specs.Quad.{Small, Fine, Lowest, Cut, Turns, Stays, Halved, raised, pushed, moved, mirrored, up, down, Under, Over, value};
 
 // The cost of what is not there, 2^60: sums and minima treat it as a number, `raise` and `add_square` leave it.
@@ -78,7 +79,7 @@ fn place(m: i64, x: u64, y: u64) -> u64
 
 // (p - q) / d is computed on signed levels and rounded down: its place, or the end of [x, y] that is nearest to it. The division is the
 // slowest instruction here and most quotients lie outside [x, y], so that two products find those first.
-pub fn cut(p: u64, q: u64, d: u64, x: u64, y: u64) -> u64
+fn cut(p: u64, q: u64, d: u64, x: u64, y: u64) -> u64
     requires { ⌜ ((p < 2305843009213693952) × (q < 2305843009213693952)) × ((0 < d) × (d ≤ 2199023255552)) ⌝ }
     requires { ⌜ (x ≤ y) × (y < 262144) ⌝ }
     ensures { λ r. ⌜ Cut p q d x y r ⌝ }
@@ -95,7 +96,7 @@ pub fn cut(p: u64, q: u64, d: u64, x: u64, y: u64) -> u64
 }
 
 // The first place of [x, y] at which e v² - 2 (f - g) v is least: its turning point, rounded, the lower one of two that tie.
-pub fn turning_point(e: u64, f: u64, g: u64, x: u64, y: u64) -> u64
+fn turning_point(e: u64, f: u64, g: u64, x: u64, y: u64) -> u64
     requires { ⌜ ((0 < e) × (e ≤ 1048576)) × ((f ≤ 549755813888) × (g ≤ 549755813888)) ⌝ }
     requires { ⌜ (x ≤ y) × (y < 262144) ⌝ }
     ensures { λ r. ⌜ Turns e f g x y r ⌝ }
@@ -106,7 +107,7 @@ pub fn turning_point(e: u64, f: u64, g: u64, x: u64, y: u64) -> u64
 // The lowest level of [x, y] at which q is least.
 pub fn lowest_min(q: Quad, x: u64, y: u64) -> u64
     requires { ⌜ Small q × ((x ≤ y) × (y < 262144)) ⌝ }
-    ensures { λ r. ⌜ Lowest q x y r ⌝ }
+    ensures { λ r. ⌜ (r ≡ lowestPlace q x (y - x)) × Lowest q x y r ⌝ }
 {
     if q.a == 0 {
         if q.z == 0 {
@@ -118,7 +119,7 @@ pub fn lowest_min(q: Quad, x: u64, y: u64) -> u64
 }
 
 // The last place at which w is at most l, where it is so at lo, not so at hi, and changes once between.
-pub fn bisect(w: Quad, l: Quad, lo: u64, hi: u64) -> u64
+fn bisect(w: Quad, l: Quad, lo: u64, hi: u64) -> u64
     requires { ⌜ (Small w × Small l) × ((lo < hi) × (hi < 262144)) ⌝ }
     requires { ⌜ Under w l lo × Over w l hi ⌝ }
     ensures { λ r. ⌜ Halved w l lo hi r ⌝ }
@@ -140,7 +141,7 @@ pub fn bisect(w: Quad, l: Quad, lo: u64, hi: u64) -> u64
 pub fn crossing(w: Quad, l: Quad, x: u64, y: u64) -> u64
     requires { ⌜ (Small w × Small l) × ((x ≤ y) × (y < 262144)) ⌝ }
     requires { ⌜ Under w l x ⌝ }
-    ensures { λ r. ⌜ Stays w l x y r ⌝ }
+    ensures { λ r. ⌜ (r ≡ lastUnder w l x (y - x)) × Stays w l x y r ⌝ }
 {
     if w.a == l.a {
         if l.z <= w.z {

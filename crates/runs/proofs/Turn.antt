@@ -1,8 +1,8 @@
 -- Runs that change places. Assumes nothing.
 use mathlib.Core.Path.{_≡_, refl, sym, _∙_, ap, subst}
 use mathlib.Core.Logic.{_⊎_, inl, inr, ⊎-elim}
-use mathlib.Core.List.{List}
-use Prim.Native.Nat.{ℕ, _+_, _-_, _*_, _^_, _≤_, _<_}
+use mathlib.Core.List.{List, [], _∷_, _++_}
+use Prim.Native.Nat.{ℕ, zero, suc, _+_, _-_, _*_, _/_, _%_, _^_, _≤_, _<_}
 use native.Mathlib.Omega.{arith}
 use native.Mathlib.Decide.{decLt, ℕ-discrete}
 use lib.IntN.{ℤ, pos}
@@ -10,10 +10,10 @@ use lib.Signed.{mag}
 use mir.Facts.{toZ-ofZ}
 use mir.Syntax.{w32}
 use mir.Val.{SFits, toZ, ofZ, hbits}
-use lib.ListN.{length, getD, set, length-set}
-use lib.Seq.{getD-set-same, getD-set-other}
+use lib.ListN.{length, getD, set, take, drop, length-set, length-append, length-drop, List·getD-append}
+use lib.Seq.{sets, getD-set-same, getD-set-other, getD-take, getD-drop, getD-append-add, length-take-le, ext-getD}
 use Rattle.runs.specs.declared.Run.{Run}
-use Rattle.runs.specs.Runs.{fiveOf, PutTo, at, Swapped, SwappedTo, SwappedRuns, Turned, Reversed}
+use Rattle.runs.specs.Runs.{fiveOf, PutTo, Put, place, runsBack, at, Swapped, SwappedTo, SwappedRuns, Turned, Reversed}
 
 -- two stores
 pub swapped-sets : (l : List ℤ) (i j : ℕ) → i < length l → j < length l → Swapped i j l (set (set l i (at l j)) j (at l i))
@@ -83,14 +83,62 @@ turned-more n m l l′ l″ h t s = record {
     run q f hq k p (no e) (no d) =
         s .other (5 * q + f) (away q n f k e) (away q (m - 1 - n) f k d) ∙ t .run q f hq (⊎-elim (λ x. inl (omega (arith, e))) (λ x. inr (omega (arith, d))) p) k
 
--- all of them: what is in the middle stands where it stood
-pub turned-all : (n m : ℕ) (l l′ : List ℤ) → m ≤ 2 * n + 1 → Turned n m l l′ → Reversed m l l′
-turned-all n m l l′ h t = record { size = t .size; run = λ q f hq k. go q f hq k (decLt q n) (decLt (q + n) m); rest = t .rest }
+-- ---- the list with its first m runs in the other order
+back-length : (m : ℕ) (l : List ℤ) → 5 * m ≤ length l → length (runsBack m l) ≡ 5 * m
+unfolding runsBack
+back-length zero l h = refl
+back-length (suc m) l h =
+    length-append (take 5 (drop (5 * m) l)) (runsBack m l)
+    ∙ omega (arith, length-take-le 5 (drop (5 * m) l) (omega (arith, length-drop (5 * m) l)), back-length m l (omega arith))
+
+back-get : (m : ℕ) (l : List ℤ) → 5 * m ≤ length l → (q f : ℕ) → q < m → f < 5 → at (runsBack m l) (5 * q + f) ≡ at l (5 * (m - 1 - q) + f)
+unfolding runsBack
+back-get zero l h q f hq hf = absurd (omega arith)
+back-get (suc m) l h zero f hq hf =
+    let e : 5 * 0 + f ≡ f = omega arith in
+    let w : 5 * m ≡ 5 * (suc m - 1 - 0) = omega arith in
+    ap (at (take 5 (drop (5 * m) l) ++ runsBack m l)) e
+    ∙ List·getD-append (take 5 (drop (5 * m) l)) (runsBack m l) (pos 0) f (omega (arith, length-take-le 5 (drop (5 * m) l) (omega (arith, length-drop (5 * m) l))))
+    ∙ getD-take 5 (drop (5 * m) l) f (pos 0) hf ∙ getD-drop (5 * m) l f (pos 0) ∙ ap (λ (x : ℕ). at l (x + f)) w
+back-get (suc m) l h (suc q) f hq hf =
+    let n = length-take-le 5 (drop (5 * m) l) (omega (arith, length-drop (5 * m) l)) in
+    let e : 5 * suc q + f ≡ length (take 5 (drop (5 * m) l)) + (5 * q + f) = omega (arith, n) in
+    let w : 5 * (m - 1 - q) ≡ 5 * (suc m - 1 - suc q) = omega arith in
+    ap (at (take 5 (drop (5 * m) l) ++ runsBack m l)) e ∙ getD-append-add (take 5 (drop (5 * m) l)) (runsBack m l) (5 * q + f) (pos 0)
+    ∙ back-get m l (omega arith) q f (omega arith) hf ∙ ap (λ (x : ℕ). at l (x + f)) w
+
+-- a list whose first m runs are those of l in the other order, and whose rest is that of l
+reversed-is : (m : ℕ) (l l′ : List ℤ) → 5 * m ≤ length l → length l′ ≡ length l → ((q f : ℕ) → q < m → f < 5 → at l′ (5 * q + f) ≡ at l (5 * (m - 1 - q) + f)) → ((i : ℕ) → 5 * m ≤ i → at l′ i ≡ at l i)
+    → l′ ≡ runsBack m l ++ drop (5 * m) l
+reversed-is m l l′ room size run rest = ext-getD (pos 0) l′ (runsBack m l ++ drop (5 * m) l) (size ∙ whole) (λ i h. same i (decLt i (5 * m)))
   where
-    go : (q f : ℕ) → q < m → f < 5 → Dec (q < n) → Dec (q + n < m) → at l′ (5 * q + f) ≡ at l (5 * (m - 1 - q) + f)
-    go q f hq k (yes a) d = t .run q f hq (inl a) k
-    go q f hq k (no a) (yes b) = let z : m - 1 - q ≡ q = omega arith in rw z (t .kept q f (omega arith) b k)
-    go q f hq k (no a) (no b) = t .run q f hq (inr (omega arith)) k
+    n : length (runsBack m l) ≡ 5 * m
+    n = back-length m l room
+
+    whole : length l ≡ length (runsBack m l ++ drop (5 * m) l)
+    whole = simp (length-append, length-drop) (omega (arith, n))
+
+    same : (i : ℕ) → Dec (i < 5 * m) → at l′ i ≡ at (runsBack m l ++ drop (5 * m) l) i
+    same i (yes k) =
+        let (a, b, e) = place i m k in
+        ap (at l′) (sym e) ∙ run (i / 5) (i % 5) a b ∙ sym (back-get m l room (i / 5) (i % 5) a b) ∙ ap (at (runsBack m l)) e ∙ sym (List·getD-append (runsBack m l) (drop (5 * m) l) (pos 0) i (omega (arith, n)))
+    same i (no k) =
+        let e : 5 * m + (i - 5 * m) ≡ i = omega arith in
+        let w : length (runsBack m l) + (i - 5 * m) ≡ i = omega (arith, n) in
+        rest i (omega arith) ∙ ap (at l) (sym e) ∙ sym (getD-drop (5 * m) l (i - 5 * m) (pos 0)) ∙ sym (getD-append-add (runsBack m l) (drop (5 * m) l) (i - 5 * m) (pos 0))
+        ∙ ap (at (runsBack m l ++ drop (5 * m) l)) w
+
+-- all of them: what is in the middle stands where it stood
+pub turned-all : (n m : ℕ) (l l′ : List ℤ) → 5 * m ≤ length l → m ≤ 2 * n + 1 → Turned n m l l′ → Reversed m l l′
+turned-all n m l l′ room h t = record { is = reversed-is m l l′ room (t .size) run (t .rest); size = t .size; run = run; rest = t .rest }
+  where
+    run : (q f : ℕ) → q < m → f < 5 → at l′ (5 * q + f) ≡ at l (5 * (m - 1 - q) + f)
+    run q f hq k = go q f hq k (decLt q n) (decLt (q + n) m)
+      where
+        go : (q f : ℕ) → q < m → f < 5 → Dec (q < n) → Dec (q + n < m) → at l′ (5 * q + f) ≡ at l (5 * (m - 1 - q) + f)
+        go q f hq k (yes a) d = t .run q f hq (inl a) k
+        go q f hq k (no a) (yes b) = let z : m - 1 - q ≡ q = omega arith in rw z (t .kept q f (omega arith) b k)
+        go q f hq k (no a) (no b) = t .run q f hq (inr (omega arith)) k
 
 pub swapped-all : {n m a b : ℕ} {l l′ : List ℤ} → n ≡ m → SwappedTo n a b l l′ → SwappedTo m a b l l′
 swapped-all {n} {m} {a} {b} {l} {l′} e s = subst (λ (x : ℕ). SwappedTo x a b l l′) e s
@@ -112,3 +160,15 @@ put-more n m r l w i x e h v p = record {
         let z : f ≡ n = omega arith in
         let y : 5 * m + f ≡ i = omega arith in
         ap (at (set w i x)) y ∙ getD-set-same w i x (pos 0) h ∙ v ∙ ap (at (fiveOf r)) (sym z)
+
+stores : (l : List ℤ) (i j k n h : ℕ) (a b c d e : ℤ) → j ≡ suc i → k ≡ suc j → n ≡ suc k → h ≡ suc n → set (set (set (set (set l i a) j b) k c) n d) h e ≡ sets l i (a ∷ b ∷ c ∷ d ∷ e ∷ [])
+stores l i j k n h a b c d e p q s t = rw (t, s, q, p)
+
+pub put-all : {m : ℕ} {r : Run} {l : List ℤ} (i j k n h : ℕ) {a b c d e : ℤ} → i ≡ 5 * m → j ≡ i + 1 → k ≡ i + 2 → n ≡ i + 3 → h ≡ i + 4 → a ≡ r .first → b ≡ r .last → c ≡ r .state → d ≡ r .level → e ≡ r .edge
+    → PutTo 5 m r l (set (set (set (set (set l i a) j b) k c) n d) h e) → Put m r l (set (set (set (set (set l i a) j b) k c) n d) h e)
+put-all {m} {r} {l} i j k n h {a} {b} {c} {d} {e} ei ej ek en eh ea eb ec ed ee p = record {
+  is = stores l i j k n h a b c d e (omega arith) (omega arith) (omega arith) (omega arith) ∙ rw (ei, ea, eb, ec, ed, ee);
+  size = p .size;
+  here = p .here;
+  other = p .other;
+}

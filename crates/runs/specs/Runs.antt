@@ -2,13 +2,13 @@
 use mathlib.Core.Path.{_≡_, refl, sym, _∙_, ap}
 use mathlib.Core.Logic.{_⊎_, inl, inr, ⊎-elim}
 use mathlib.Core.List.{List, [], _∷_, _++_, reverse}
-use Prim.Native.Nat.{ℕ, _+_, _-_, _*_, _/_, _%_, _≤_, _<_}
+use Prim.Native.Nat.{ℕ, zero, suc, _+_, _-_, _*_, _/_, _%_, _≤_, _<_}
 use native.Mathlib.Omega.{arith}
 use native.Mathlib.Nat.{div-add-mod', mod-lt}
 use native.Mathlib.Decide.{decLt}
 use lib.IntN.{ℤ, pos}
-use lib.ListN.{length, getD, drop, length-append, length-drop}
-use lib.Seq.{ext-getD, getD-append-add, getD-drop}
+use lib.ListN.{length, getD, take, drop, length-append, length-drop}
+use lib.Seq.{sets, ext-getD, getD-append-add, getD-drop}
 use lib.ListN.{List·getD-append, length-reverse}
 use Rattle.model.specs.Run as M
 use Rattle.model.specs.Run.{numbers, five}
@@ -31,8 +31,12 @@ pub record PutTo (n m : ℕ) (r : Run) (l l′ : List ℤ) : Type 0 where
   pub here : (f : ℕ) → f < n → at l′ (5 * m + f) ≡ at (fiveOf r) f
   pub other : (i : ℕ) → (i < 5 * m) ⊎ (5 * m + n ≤ i) → at l′ i ≡ at l i
 
-abbrev pub Put : ℕ → Run → List ℤ → List ℤ → Type 0
-Put = PutTo 5
+-- the five numbers of r are stored one after the other
+pub record Put (m : ℕ) (r : Run) (l l′ : List ℤ) : Type 0 where
+  pub is : l′ ≡ sets l (5 * m) (fiveOf r)
+  pub size : length l′ ≡ length l
+  pub here : (f : ℕ) → f < 5 → at l′ (5 * m + f) ≡ at (fiveOf r) f
+  pub other : (i : ℕ) → (i < 5 * m) ⊎ (5 * m + 5 ≤ i) → at l′ i ≡ at l i
 
 pub record Swapped (i j : ℕ) (l l′ : List ℤ) : Type 0 where
   pub size : length l′ ≡ length l
@@ -50,8 +54,14 @@ pub record SwappedTo (n a b : ℕ) (l l′ : List ℤ) : Type 0 where
 abbrev pub SwappedRuns : ℕ → ℕ → List ℤ → List ℤ → Type 0
 SwappedRuns = SwappedTo 5
 
+-- the first m runs of l, last one first
+unfoldable pub runsBack : ℕ → List ℤ → List ℤ
+runsBack zero l = []
+runsBack (suc m) l = take 5 (drop (5 * m) l) ++ runsBack m l
+
 -- the first m runs are in the other order, and the rest is as before
 pub record Reversed (m : ℕ) (l l′ : List ℤ) : Type 0 where
+  pub is : l′ ≡ runsBack m l ++ drop (5 * m) l
   pub size : length l′ ≡ length l
   pub run : (q f : ℕ) → q < m → f < 5 → at l′ (5 * q + f) ≡ at l (5 * (m - 1 - q) + f)
   pub rest : (i : ℕ) → 5 * m ≤ i → at l′ i ≡ at l i

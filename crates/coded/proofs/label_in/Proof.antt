@@ -2,34 +2,25 @@ use Rattle.coded.proofs.Numbers.{label-read}
 use borrow.Author.Needs.{needs}
 use Rattle.coded.proofs.label_in.Statement.{statement}
 use Rattle.coded.proofs.label_in.Tie as tie
-use Rattle.coded.proofs.label_in.Reads as reads
-use Rattle.coded.proofs.label_in.Lts as lts
 
--- src/lib.rt:55:18
 add-w : tie.Need-add-w
 add-w c = search needs
 
--- src/lib.rt:55:13
 mul-w : tie.Need-mul-w
 mul-w c = search needs
 
--- src/lib.rt:55:13
 shared-slice-read-w : tie.Need-shared-slice-read-w
 shared-slice-read-w c = search needs
 
--- src/lib.rt:57:12
 cast-t8 : tie.Need-cast-t8
 cast-t8 c = search needs
 
--- src/lib.rt:58:12
 cast-t11 : tie.Need-cast-t11
 cast-t11 c = search needs
 
--- src/lib.rt:59:12
 cast-t14 : tie.Need-cast-t14
 cast-t14 c = search needs
 
--- src/lib.rt:51:1
 returns : tie.Need-returns
 returns c = label-read _
 

@@ -20,7 +20,7 @@ sub-result : tie.Need-sub-result
 sub-result c = search needs
 
 returns-2 : tie.Need-returns-2
-returns-2 c = stays-from _ _ _ _ _ _ (c .crossing .ensures)
+returns-2 c = stays-from _ _ _ _ _ _ (c .crossing .ensures .1)
 
 pub reach-spec : {M : Type 1} → statement M
 reach-spec =

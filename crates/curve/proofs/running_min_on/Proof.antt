@@ -24,8 +24,8 @@ add-eval : tie.Need-add-eval
 add-eval c = search needs
 
 lw : (c : tie.After-lowest-min) → Lowest (c .before .before .args .p) (c .before .before .args .base + c .before .before .args .a) (c .before .before .args .base + c .before .before .args .e) (c .before .before .args .base + (c .lowest-min .result - c .before .before .args .base))
-lw c = let s = c .before .before in let e : c .lowest-min .result ≡ s .args .base + (c .lowest-min .result - s .args .base) = omega (arith, c .lowest-min .ensures .low) in
-    subst (Lowest (s .args .p) (s .args .base + s .args .a) (s .args .base + s .args .e)) e (c .lowest-min .ensures)
+lw c = let s = c .before .before in let e : c .lowest-min .result ≡ s .args .base + (c .lowest-min .result - s .args .base) = omega (arith, c .lowest-min .ensures .1 .low) in
+    subst (Lowest (s .args .p) (s .args .base + s .args .a) (s .args .base + s .args .e)) e (c .lowest-min .ensures .1)
 
 eval-requires : tie.Need-eval-requires
 eval-requires c κs = let s = c .before .before in (s .pre .0 .0, (omega (arith, lw c .high), s .pre .0 .1 _ (lw c .low) (lw c .high)))

@@ -16,7 +16,7 @@ least-in-requires : tie.Need-least-in-requires
 least-in-requires c κs = let s = c .before in let l = s .pre .0 .0 in ((s .pre .0 .1 .held, l .high), (omega (arith, s .pre .1), curve-fine l (s .pre .0 .1)))
 
 returns : tie.Need-returns
-returns c = let s = c .before .before in range-least (c .least-in .ensures) (omega (arith, s .pre .1)) (λ i h p. (p, omega arith)) (λ i p q. p)
+returns c = let s = c .before .before in range-least (c .least-in .ensures) (omega (arith, s .pre .1)) (λ i h p. (omega arith, omega arith)) (λ i p q. omega arith)
 
 pub least-above-spec : {M : Type 1} → statement M
 least-above-spec = tie.close (tie.spec add-least-in sub-least-in least-in-requires returns)

@@ -6,19 +6,15 @@ use Rattle.plan.proofs.change_number.Reads as reads
 use Rattle.plan.proofs.change_number.Lts as lts
 use Rattle.plan.proofs.check_plan.Reads as check-plan-reads
 
--- src/lib.rt:351:9
 check-plan-requires : tie.Need-check-plan-requires
 check-plan-requires c κs = search needs
 
--- src/lib.rt:353:9
 returns : tie.Need-returns
 returns c = change-wrong _ _ (c .before .check-plan .ensures) (c .if1 .taken)
 
--- src/lib.rt:348:1
 returns-2 : tie.Need-returns-2
 returns-2 c = change-sealed _ _ (c .before .before .check-plan .ensures) (c .before .if1 .left) (c .if2 .taken)
 
--- src/lib.rt:348:1
 returns-3 : tie.Need-returns-3
 returns-3 c = change-none _ _ (c .before .before .check-plan .ensures) (c .before .if1 .left) (c .if2 .left)
 

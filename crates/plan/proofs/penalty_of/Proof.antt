@@ -7,20 +7,16 @@ use Rattle.plan.proofs.penalty_of.Tie as tie
 use Rattle.plan.proofs.penalty_of.Reads as reads
 use Rattle.plan.proofs.penalty_of.Lts as lts
 
--- src/lib.rt:501:9
 returns : tie.Need-returns
 unfolding penalty
 returns c = sym (List·getD-eq-default penalties 0 (c .if1 .taken))
 
--- src/lib.rt:503:5
 mul-result : tie.Need-mul-result
 mul-result c = search needs
 
--- src/lib.rt:503:5
 array-read-result : tie.Need-array-read-result
 array-read-result c = search needs
 
--- src/lib.rt:497:1
 returns-2 : tie.Need-returns-2
 unfolding penalty
 returns-2 c = refl

@@ -4,46 +4,34 @@ use Rattle.runs.proofs.Turn.{swapped-by, back32}
 use borrow.Author.Needs.{needs}
 use Rattle.runs.proofs.swap_at.Statement.{statement}
 use Rattle.runs.proofs.swap_at.Tie as tie
-use Rattle.runs.proofs.swap_at.Reads as reads
-use Rattle.runs.proofs.swap_at.Lts as lts
 
--- src/lib.rt:37:13
 mul-x : tie.Need-mul-x
 mul-x c = search needs
 
--- src/lib.rt:37:13
 slice-copy-out-x : tie.Need-slice-copy-out-x
 slice-copy-out-x c = search needs
 
--- src/lib.rt:38:13
 mul-y : tie.Need-mul-y
 mul-y c = search needs
 
--- src/lib.rt:38:13
 slice-copy-out-y : tie.Need-slice-copy-out-y
 slice-copy-out-y c = search needs
 
--- src/lib.rt:39:5
 mul-y-2 : tie.Need-mul-y-2
 mul-y-2 c = search needs
 
--- src/lib.rt:39:5
 slice-set-from-y : tie.Need-slice-set-from-y
 slice-set-from-y c = search needs
 
--- src/lib.rt:40:5
 mul-x-2 : tie.Need-mul-x-2
 mul-x-2 c = search needs
 
--- src/lib.rt:40:5
 slice-set-from-x : tie.Need-slice-set-from-x
 slice-set-from-x c = search needs
 
--- src/lib.rt:33:1
 same-length : tie.Need-same-length
 same-length c = search needs
 
--- src/lib.rt:33:1
 returns : tie.Need-returns
 returns c = swapped-by (c .before .before .args .out .now) (c .before .before .args .i) (c .before .before .args .j) _ _ (c .before .before .pre .0) (c .before .before .pre .1) (back32 (getD (c .before .before .args .out .now) (c .before .before .args .i) (pos 0)) (c .before .x .given)) (back32 (getD (c .before .before .args .out .now) (c .before .before .args .j) (pos 0)) (c .y .given))
 

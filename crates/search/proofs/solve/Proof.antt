@@ -47,7 +47,7 @@ slice-aggregate-way-back-2 c = search needs
 
 -- src/lib.rt:187:9
 way-back-requires : tie.Need-way-back-requires
-way-back-requires c κs = (way-ready (c .before .before .before .before .before .before .before .before .before .before .before .before .before .before .before .before .before .before .before .pre) (c .before .before .before .before .before .before .before .before .before .before .before .cheapest .ensures) (c .before .before .before .before .if1 .left), c .before .before .before .before .before .before .before .before .before .before .before .before .before .before .before .before .put-plan .ensures)
+way-back-requires c κs = (way-ready (c .before .before .before .before .before .before .before .before .before .before .before .before .before .before .before .before .before .before .before .pre) (c .before .before .before .before .before .before .before .before .before .before .before .cheapest .ensures) (c .before .before .before .before .if1 .left), c .before .before .before .before .before .before .before .before .before .before .before .before .before .before .before .before .put-plan .ensures .coded)
 
 -- src/lib.rt:188:9
 finish-runs-requires : tie.Need-finish-runs-requires

@@ -30,7 +30,7 @@ slice-aggregate-counts-at : tie.Need-slice-aggregate-counts-at
 slice-aggregate-counts-at c = search needs
 
 counts-at-requires : tie.Need-counts-at-requires
-counts-at-requires c κs = (c .before .before .before .before .before .before .before .before .before .before .before .before .pre .space .task .ready .plan, c .before .before .before .before .before .before .before .before .before .put-plan .ensures)
+counts-at-requires c κs = (c .before .before .before .before .before .before .before .before .before .before .before .before .pre .space .task .ready .plan, c .before .before .before .before .before .before .before .before .before .put-plan .ensures .coded)
 
 bias-requires : tie.Need-bias-requires
 bias-requires c κs = search needs
