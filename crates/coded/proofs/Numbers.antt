@@ -1,5 +1,6 @@
 -- Numbers of edges and labels read back, and lists of them one longer. Assumes nothing.
 use mathlib.Core.Path.{_≡_, refl, sym, _∙_, ap}
+use mathlib.Core.Logic.{⊎-elim}
 use mathlib.Core.List.{List, _++_}
 use Prim.Native.Nat.{ℕ, zero, suc, _+_, _-_, _*_, _/_, _%_, _≤_, _<_}
 use native.Mathlib.Omega.{arith}
@@ -12,6 +13,8 @@ use Rattle.plan.specs.declared.Edge.{Edge}
 use Rattle.plan.specs.declared.Label.{Label}
 use Rattle.plan.specs.declared.Plan.{Plan}
 use Rattle.plan.specs.Build.{kindNumber, gapOf}
+use Rattle.plan.proofs.ByNumber.{no-kind}
+use Rattle.integers.specs.Rep.{le-or-lt}
 use Rattle.model.specs.Model.{edgeAt, labelAt}
 use Rattle.coded.specs.Coded.{kindWith, edgeIn, labelIn, edgeNumber, labelNumber, EdgesFrom, LabelsFrom, Numbered, listed, codeOf}
 
@@ -23,11 +26,7 @@ kind-back (Down g) = refl
 kind-back (Abs g) = refl
 
 kind-low : (k : Kind) → kindNumber k < 256
-kind-low Stay = omega arith
-kind-low Any = omega arith
-kind-low (Up g) = omega arith
-kind-low (Down g) = omega arith
-kind-low (Abs g) = omega arith
+kind-low k = ⊎-elim (λ h. omega arith) (λ h. no-kind k h) (le-or-lt (kindNumber k) 4)
 
 abbrev pub mk : ℕ → ℕ → Kind → ℕ → Edge
 mk f t k c = record { from = f; to = t; kind = k; class = c }

@@ -120,24 +120,19 @@ fn in_hand(acc: usize, next: usize, work: usize, f: usize, levels: u64) -> bool
     crate::list::apart(next, work, levels)
 }
 
-// A kind by its number, with a gap below 1024.
+// A kind by its number, with a gap below 1024; stay where no kind has it.
 fn kind_of(number: u64, gap: u64) -> Kind
     ensures { λ r. ⌜ gapOf r ≤ 1023 ⌝ }
 {
-    if number == 0 {
-        return Kind::Stay;
-    }
-    if number == 1 {
-        return Kind::Any;
-    }
     let g = (gap % 1024) as u16;
-    if number == 2 {
-        return Kind::Up(g);
+    match number {
+        0 => Kind::Stay,
+        1 => Kind::Any,
+        2 => Kind::Up(g),
+        3 => Kind::Down(g),
+        4 => Kind::Abs(g),
+        5..=18446744073709551615 => Kind::Stay,
     }
-    if number == 3 {
-        return Kind::Down(g);
-    }
-    Kind::Abs(g)
 }
 
 // An edge from the list at f into the one at acc: where the least is then; past every list where it could not be taken.
