@@ -11,7 +11,7 @@ use lib.Dec.{eqb, leb}
 use lib.ListN.{length, getD, take, drop, length-append}
 use lib.Seq.{take-all, take-at, take-add, drop-cons}
 use lib.IntN.{ℤ, pos, negsuc}
-use borrow.Author.Tests.{eq-eqb, ne-eqb, eqb-false}
+use borrow.Author.Tests.{eq-eqb, ne-eqb, eqb-false, le-leb}
 use Rattle.integers.specs.Pick.{pick}
 use Rattle.integers.specs.Bytes.{word, word-back, signed16, bits16, signed-bits}
 use Rattle.fields.specs.declared.Field.{Field}
@@ -23,7 +23,7 @@ use Rattle.fields.specs.Put.{written}
 use Rattle.answers.specs.declared.AnswerRead.{AnswerRead}
 use Rattle.answers.specs.declared.AnswerRead.the-variants.{Runs, Refusal, Unread}
 use Rattle.answers.specs.Runs.{isRefusal, runFits, whole, numberAt, wholeAt, lastBefore, runsOk}
-use Rattle.answers.specs.Reader.{bodyFits, bodyLast, runsFrom, refusalRead, answerFile, runNumbers, runBody, runsOf}
+use Rattle.answers.specs.Reader.{bodyFits, bodyLast, runsFrom, refusalRead, answerFile, inRoom, onRead, readAnswer, filled, runNumbers, runBody, runsOf}
 use Rattle.answers.specs.Writer.{runField, runsBytes, answerBytes, refusalBytes, answerLength, answerNumber, refusalNumber, afterAnswer, afterRefusal}
 use Rattle.answers.specs.Rules.{run-parts, run-small, run-level, runs-each, last-next, last-first}
 use Rattle.answers.specs.Lengths.{run-bytes-length, answer-length, Writes, answer-room}
@@ -176,21 +176,40 @@ module _ (cost : ℕ) (runs : List ℤ) (small : cost < 18446744073709551616) (f
   pub runs-back : runsOf file count ≡ runs
   runs-back = runs-front count (omega arith) ∙ take-all (5 * count) runs (omega (arith, five))
 
--- the same from buffer to buffer: what a writer left in front of out, read again
-pub written-then-read :
-    (cost : ℕ) (runs : List ℤ) (out : List ℕ) → cost < 18446744073709551616 → answerNumber runs (length out) ≡ 0 →
-    (answerFile (take (answerLength (length runs)) (afterAnswer cost runs out)) ≡ Runs cost (length runs / 5)) × (runsOf (take (answerLength (length runs)) (afterAnswer cost runs out)) (length runs / 5) ≡ runs)
-unfolding written
-written-then-read cost runs out small w =
-    let r = answer-room runs (length out) w in
-    let e : take (answerLength (length runs)) (afterAnswer cost runs out) ≡ answerBytes cost runs = rw w (take-at (answerBytes cost runs) (drop (length (answerBytes cost runs)) out) (answerLength (length runs)) (answer-length cost runs)) in
-    (ap answerFile e ∙ write-then-read cost runs small (r .five) (r .some-runs) (r .rules), ap (λ (s : List ℕ). runsOf s (length runs / 5)) e ∙ runs-back cost runs small (r .five) (r .some-runs) (r .rules))
+-- the same from buffer to buffer: what a writer left in front of out, read again into a list that has room for it; the list's rest stays
+module _ (cost : ℕ) (runs : List ℤ) (out : List ℕ) (list : List ℤ) (small : cost < 18446744073709551616) (w : answerNumber runs (length out) ≡ 0) (room : length runs ≤ length list) where
+  abbrev bytes : List ℕ
+  bytes = take (answerLength (length runs)) (afterAnswer cost runs out)
 
-pub refusal-then-read : (n : ℕ) (out : List ℕ) → refusalNumber n (length out) ≡ 0 → answerFile (take 4 (afterRefusal n out)) ≡ Refusal n
-unfolding written refusalNumber
-refusal-then-read n out w = go (isRefusal n) refl (leb 4 (length out)) refl w
+  bytes-are : bytes ≡ answerBytes cost runs
+  unfolding written
+  bytes-are = rw w (take-at (answerBytes cost runs) (drop (length (answerBytes cost runs)) out) (answerLength (length runs)) (answer-length cost runs))
+
+  five-runs : 5 * (length runs / 5) ≡ length runs
+  five-runs = omega (arith, answer-room runs (length out) w .five)
+
+  pub written-then-read : readAnswer bytes (length list) ≡ Runs cost (length runs / 5)
+  unfolding readAnswer
+  written-then-read =
+      let r = answer-room runs (length out) w in
+      let a : answerFile bytes ≡ Runs cost (length runs / 5) = ap answerFile bytes-are ∙ write-then-read cost runs small (r .five) (r .some-runs) (r .rules) in
+      rw (a, le-leb (5 * (length runs / 5)) (length list) (omega (arith, five-runs))) refl
+
+  pub written-then-filled : filled bytes list ≡ runs ++ drop (length runs) list
+  unfolding filled
+  written-then-filled =
+      let r = answer-room runs (length out) w in
+      ap (onRead bytes list) written-then-read
+      ∙ ap (λ (x : List ℕ). runsOf x (length runs / 5) ++ drop (5 * (length runs / 5)) list) bytes-are
+      ∙ ap₂ (λ (x : List ℤ) (k : ℕ). x ++ drop k list) (runs-back cost runs small (r .five) (r .some-runs) (r .rules)) five-runs
+
+pub refusal-then-read : (n : ℕ) (out : List ℕ) (list : List ℤ) → refusalNumber n (length out) ≡ 0
+    → (readAnswer (take 4 (afterRefusal n out)) (length list) ≡ Refusal n) × (filled (take 4 (afterRefusal n out)) list ≡ list)
+unfolding written refusalNumber readAnswer filled
+refusal-then-read n out list w = go (isRefusal n) refl (leb 4 (length out)) refl w
   where
-    go : (a : Bool) → isRefusal n ≡ a → (b : Bool) → leb 4 (length out) ≡ b → _≡_ {A = ℕ} (pick a (pick b 0 15) 17) 0 → answerFile (take 4 (afterRefusal n out)) ≡ Refusal n
+    go : (a : Bool) → isRefusal n ≡ a → (b : Bool) → leb 4 (length out) ≡ b → _≡_ {A = ℕ} (pick a (pick b 0 15) 17) 0
+        → (readAnswer (take 4 (afterRefusal n out)) (length list) ≡ Refusal n) × (filled (take 4 (afterRefusal n out)) list ≡ list)
     go false qa b qb h = absurd (eqb-false 17 0 refl h)
     go true qa false qb h = absurd (eqb-false 15 0 refl h)
-    go true qa true qb h = rw (qa, qb) (refusal-again n qa)
+    go true qa true qb h = rw (qa, qb, refusal-again n qa) (refl, refl)

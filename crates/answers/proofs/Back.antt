@@ -9,7 +9,7 @@ use mathlib.Core.List.{List, [], _∷_, _++_, append-nil, append-assoc}
 use mathlib.Core.Logic.{_⊎_, inl, inr, ⊎-elim}
 use lib.Dec.{eqb, leb}
 use lib.ListN.{length, getD, take, drop, length-append, List·getD-append}
-use lib.Seq.{take-length, getD-append-add}
+use lib.Seq.{take-length, take-at, getD-append-add}
 use lib.IntN.{ℤ, pos}
 use borrow.Author.Tests.{eqb-true, eqb-false, eq-eqb, ne-eqb, le-leb}
 use Rattle.integers.specs.Pick.{pick}
@@ -21,12 +21,13 @@ use Rattle.fields.specs.Fields.{rowOf, fieldAt, fieldNumber, partOf, wordAt, fi
 use Rattle.fields.specs.Laws.{FieldRead, field-is, field-bytes, part-length, part-bytes, bytesAt, spell}
 use Rattle.fields.specs.Tags.{at-5, has-length}
 use Rattle.fields.specs.Eight.{eight-back}
-use Rattle.fields.specs.Put.{written}
+use Rattle.fields.specs.Put.{outcome, written}
+use Rattle.fields.specs.declared.Written.the-variants.{Bytes}
 use Rattle.answers.specs.declared.AnswerRead.{AnswerRead}
 use Rattle.answers.specs.declared.AnswerRead.the-variants.{Runs, Refusal, Unread}
 use Rattle.answers.specs.Runs.{isRefusal, runFits, whole, levelFits, numberAt, wholeAt, lastBefore, runOk, runsOk}
-use Rattle.answers.specs.Reader.{bodyFits, bodyLast, onRun, runsFrom, refusalRead, onHead, answerFile, runNumbers, runBody, runsOf}
-use Rattle.answers.specs.Writer.{runField, runsBytes, answerBytes, refusalBytes, answerLength, answerNumber, afterAnswer}
+use Rattle.answers.specs.Reader.{bodyFits, bodyLast, onRun, runsFrom, refusalRead, onHead, answerFile, inRoom, onRead, readAnswer, filled, runNumbers, runBody, runsOf}
+use Rattle.answers.specs.Writer.{runField, runsBytes, answerBytes, refusalBytes, answerLength, answerNumber, answerWritten, afterAnswer, refusalNumber, refusalWritten, afterRefusal}
 use Rattle.answers.specs.Sizes.{run-size, cost-size, file-long, runs-length}
 use Rattle.answers.specs.Rules.{level-fits}
 use Rattle.answers.specs.Lengths.{answer-length}
@@ -236,17 +237,43 @@ file-back s c n f h = means (read-head s c n f h)
           some-runs = a .1 .more;
         }
 
--- so the writer, given what was read and a buffer that is long enough, writes the file that was read
-pub read-then-write : (s out : List ℕ) (c n : ℕ) → AllBytes s → answerFile s ≡ Runs c n → length s ≤ length out → afterAnswer c (runsOf s n) out ≡ s ++ drop (length s) out
-unfolding written answerNumber
-read-then-write s out c n f h l =
-    let m = file-back s c n f h in
-    let five = runs-length s n in
-    let e : length (runsOf s n) / 5 ≡ n = omega arith in
-    let z : length (runsOf s n) % 5 ≡ 0 = omega arith in
-    let ne = ne-eqb (length (runsOf s n)) 0 (λ q. omega (arith, q, m .some-runs)) in
-    let long = sym (answer-length c (runsOf s n)) ∙ ap length (m .bytes) in
-    rw (ne, z, e, m .rules, le-leb (11 + 11 * n) (length out) (omega (arith, long, e)), m .bytes)
+-- from buffer to buffer: the runs that a reader left in front of a list, written again, are the file that was read
+module _ (s out : List ℕ) (list : List ℤ) (c n : ℕ) (f : AllBytes s) (h : readAnswer s (length list) ≡ Runs c n) (l : length s ≤ length out) where
+  abbrev front : List ℤ
+  front = take (5 * n) (filled s list)
+
+  read-is : answerFile s ≡ Runs c n
+  unfolding readAnswer
+  read-is = go (answerFile s) h
+    where
+      room : (d m : ℕ) (b : Bool) → pick b (Runs d m) (Unread 15) ≡ Runs c n → Runs d m ≡ Runs c n
+      room d m true e = e
+      room d m false e = never e
+
+      go : (r : AnswerRead) → inRoom (length list) r ≡ Runs c n → r ≡ Runs c n
+      go (Runs d m) e = room d m (leb (5 * m) (length list)) e
+      go (Refusal m) e = e
+      go (Unread m) e = e
+
+  front-is : front ≡ runsOf s n
+  unfolding filled
+  front-is = ap (λ (r : AnswerRead). take (5 * n) (onRead s list r)) h ∙ take-at (runsOf s n) (drop (5 * n) list) (5 * n) (runs-length s n)
+
+  number-again : answerNumber front (length out) ≡ 0
+  unfolding answerNumber
+  number-again =
+      let m = file-back s c n f read-is in
+      let five = runs-length s n in
+      let e : length (runsOf s n) / 5 ≡ n = omega arith in
+      let z : length (runsOf s n) % 5 ≡ 0 = omega arith in
+      let ne = ne-eqb (length (runsOf s n)) 0 (λ q. omega (arith, q, m .some-runs)) in
+      rw (front-is, ne, z, e, m .rules, le-leb (11 + 11 * n) (length out) (omega (arith, file-long s c n read-is))) refl
+
+  pub read-then-write : (answerWritten front (length out) ≡ Bytes (length s)) × (afterAnswer c front out ≡ s ++ drop (length s) out)
+  unfolding outcome written
+  read-then-write =
+      let b = ap (answerBytes c) front-is ∙ file-back s c n f read-is .bytes in
+      rw number-again (ap Bytes (sym (answer-length c front) ∙ ap length b), ap (λ (x : List ℕ). x ++ drop (length x) out) b)
 
 -- ---- a refusal
 
@@ -300,3 +327,19 @@ refusal-back s n f h = go (fieldAt s 0 5) refl h
     go : (x : Field) → fieldAt s 0 5 ≡ x → onHead s x ≡ Refusal n → (refusalBytes n ≡ s) × (isRefusal n ≡ true)
     go (Wrong m) e w = not-refusal w
     go (Body t st l) e w = let r = field-is s 0 5 e in by-tag r (at-5 t (r .stands)) (eqb t 0x81) refl w
+
+pub refusal-then-write : (s out : List ℕ) (list : List ℤ) (n : ℕ) → AllBytes s → readAnswer s (length list) ≡ Refusal n → length s ≤ length out → (refusalWritten n (length out) ≡ Bytes (length s)) × (afterRefusal n out ≡ s ++ drop (length s) out)
+unfolding readAnswer outcome written refusalNumber
+refusal-then-write s out list n f h l =
+    let (b, k) = refusal-back s n f (go (answerFile s) h) in
+    let e : 4 ≤ length out = omega (arith, ap length b) in
+    rw (k, le-leb 4 (length out) e) (ap (λ (x : List ℕ). Bytes (length x)) b, ap (λ (x : List ℕ). x ++ drop (length x) out) b)
+  where
+    room : (d m : ℕ) (b : Bool) → pick b (Runs d m) (Unread 15) ≡ Refusal n → Runs d m ≡ Refusal n
+    room d m true e = e
+    room d m false e = not-refusal e
+
+    go : (r : AnswerRead) → inRoom (length list) r ≡ Refusal n → r ≡ Refusal n
+    go (Runs d m) e = room d m (leb (5 * m) (length list)) e
+    go (Refusal m) e = e
+    go (Unread m) e = e

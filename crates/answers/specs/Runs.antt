@@ -8,9 +8,13 @@ use lib.IntN.{ℤ, pos, negsuc}
 use lib.Signed.{leZ, ltZ}
 use Rattle.integers.specs.Pick.{pick}
 
+-- the last number of the paper's two lists; it rises with each refusal that joins them, and LAST_REFUSAL in code with it
+abbrev pub lastRefusal : ℕ
+lastRefusal = 17
+
 -- the refusal numbers that an answer file may hold
 unfoldable pub isRefusal : ℕ → Bool
-isRefusal n = pick (eqb n 0) false (leb n 17)
+isRefusal n = pick (eqb n 0) false (leb n lastRefusal)
 
 -- a run after one whose last reading is prev, 0 before the first run: it starts right after it, ends at 4,096 at most and not before it starts,
 -- its state is 0 to 7, its edge 255 in the first run and 0 to 31 later

@@ -1,6 +1,7 @@
 // Reads and writes answer files.
 use fields::Field;
 use fields::Written;
+use plan::Plan;
 ghost use mathlib.Core.Path.{_≡_};
 ghost use mathlib.Core.Bool.{true};
 ghost use Prim.Native.Nat.{_+_, _-_, _*_, _/_, _≤_, _<_};
@@ -19,6 +20,9 @@ pub enum AnswerRead {
     Unread(u8),
 }
 
+// The last number of the paper's two lists. It rises with each refusal that joins them, and lastRefusal in specs with it.
+pub const LAST_REFUSAL: u8 = 17;
+
 // The refusal numbers that an answer file may hold.
 pub fn is_refusal(n: u8) -> bool
     ensures { λ r. ⌜ r ≡ isRefusal n ⌝ }
@@ -26,7 +30,7 @@ pub fn is_refusal(n: u8) -> bool
     if n == 0 {
         return false;
     }
-    n <= 17
+    n <= LAST_REFUSAL
 }
 
 // A run after one that ended at prev, 0 before the first.
@@ -42,16 +46,16 @@ fn run_fits(prev: u32, first: u32, last: u32, state: u32, edge: u32) -> bool
     if last < first {
         return false;
     }
-    if 4096 < last {
+    if (Plan::MAX_READINGS as u32) < last {
         return false;
     }
-    if 7 < state {
+    if (Plan::MAX_STATES as u32) <= state {
         return false;
     }
     if prev == 0 {
         return edge == 255;
     }
-    edge <= 31
+    edge < (Plan::MAX_EDGES as u32)
 }
 
 fn body_fits(prev: u32, b: &[u8]) -> bool
@@ -118,7 +122,16 @@ fn read_refusal(s: &[u8], at: usize, b: &[u8]) -> AnswerRead
     if at == s.len() {
         return AnswerRead::Refusal(n);
     }
-    AnswerRead::Unread(fields::field_number(fields::read_field(s, at, 4)))
+    let f = fields::read_field(s, at, 4);
+    let Field::Body {
+        tag: _,
+        start: _,
+        len: _,
+    } = f
+    else {
+        return AnswerRead::Unread(fields::field_number(f));
+    };
+    AnswerRead::Unread(2)
 }
 
 // The fields of an answer file to its end.

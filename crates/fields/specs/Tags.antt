@@ -4,12 +4,15 @@ use Prim.Native.Nat.{ℕ, _%_, _≤_}
 use native.Mathlib.Omega.{arith}
 use mathlib.Core.Path.{_≡_, refl, sym, _∙_, ap, subst}
 use mathlib.Core.Bool.{Bool, true, false}
+use mathlib.Core.List.{List}
 use mathlib.Core.Logic.{_⊎_, inl, inr}
 use lib.Dec.{eqb, leb, lit≤}
 use borrow.Author.Tests.{eqb-true}
 use Rattle.integers.specs.Pick.{pick}
 use Rattle.fields.specs.declared.Row.{Row}
-use Rattle.fields.specs.Fields.{rowOf, mayStand, lengthFits}
+use Rattle.fields.specs.declared.Field.the-variants.{Body}
+use Rattle.fields.specs.Fields.{rowOf, mayStand, lengthFits, fieldAt}
+use Rattle.fields.specs.Laws.{field-is}
 
 abbrev nowhere : Row
 nowhere = record { first = 1; last = 0; next = 4; len = 0 }
@@ -111,3 +114,7 @@ row-short t =
 pub at-4 : (t : ℕ) → mayStand 4 t ≡ false
 unfolding mayStand rowOf
 at-4 t = row-cases t (ap (mayStand 4)) (ap (mayStand 4)) (ap (mayStand 4)) (ap (mayStand 4)) (ap (mayStand 4)) (ap (mayStand 4)) (ap (mayStand 4)) (ap (mayStand 4)) (ap (at 4))
+
+-- so no field is read there
+pub nothing-after : (s : List ℕ) (i : ℕ) {t st l : ℕ} → fieldAt s i 4 ≡ Body t st l → ⊥
+nothing-after s i {t} e = clash (at-4 t) (field-is s i 4 e .stands)

@@ -337,11 +337,17 @@ module _ (p : Plan) (zs : List ℤ) (h : planNumber p ≡ 0) (fl : SFits w16 (p 
       field-part (headBytes p) b [] 5 2 (stands .1) fits counts) ∙ decode-encode zs fz
 
 -- the same from buffer to buffer: what the writer left in front of out, read again
-pub written-then-read :
-    (p : Plan) (zs : List ℤ) (out : List ℕ) (fl : SFits w16 (p .lo)) (fh : SFits w16 (p .hi)) (fz : All16 zs) (w : writeNumber p (length zs) (length out) ≡ 0) →
-    planFile (take (planLength p (length zs)) (afterWriting p zs out)) ≡ record { answer = Done; plan = cleared p; start = length (headBytes p) + 3; len = 2 * length zs }
-unfolding written
-written-then-read p zs out fl fh fz w =
-    let r = write-room p (length zs) (length out) w in
-    let e : take (planLength p (length zs)) (afterWriting p zs out) ≡ planBytes p zs = rw w (take-at (planBytes p zs) (drop (length (planBytes p zs)) out) (planLength p (length zs)) (plan-length p zs)) in
-    ap planFile e ∙ write-then-read p zs (r .passes) fl fh fz (r .space .counts)
+module _ (p : Plan) (zs : List ℤ) (out : List ℕ) where
+  abbrev pub bytes : List ℕ
+  bytes = take (planLength p (length zs)) (afterWriting p zs out)
+
+  module _ (fl : SFits w16 (p .lo)) (fh : SFits w16 (p .hi)) (fz : All16 zs) (w : writeNumber p (length zs) (length out) ≡ 0) where
+    bytes-are : bytes ≡ planBytes p zs
+    unfolding written
+    bytes-are = rw w (take-at (planBytes p zs) (drop (length (planBytes p zs)) out) (planLength p (length zs)) (plan-length p zs))
+
+    pub written-then-read : planFile bytes ≡ record { answer = Done; plan = cleared p; start = length (headBytes p) + 3; len = 2 * length zs }
+    written-then-read = let r = write-room p (length zs) (length out) w in ap planFile bytes-are ∙ write-then-read p zs (r .passes) fl fh fz (r .space .counts)
+
+    pub readings-then-read : readingsOf (readingsPart bytes) ≡ zs
+    readings-then-read = let r = write-room p (length zs) (length out) w in ap (λ (s : List ℕ). readingsOf (readingsPart s)) bytes-are ∙ readings-back p zs (r .passes) fl fh fz (r .space .counts)

@@ -20,13 +20,13 @@ use Rattle.model.specs.Model.{onGrid, First}
 use Rattle.model.specs.Run.{Run, run, runs, five, numbers, runNumbers}
 use Rattle.model.specs.RunLaws.{RunOk, Tiles, runs-tile, numbers-length, numbers-get}
 use Rattle.model.specs.Bools.{clash, and-yes}
-use Rattle.model.specs.Checked.{Checked, Accepted, accepted, search-low}
+use Rattle.model.specs.Checked.{Checked, Accepted, accepted, isEarly, early-has, search-is-early}
 use Rattle.model.specs.Refusals.{searchNumber}
 use Rattle.model.specs.Result.{Result, found, refused, whole, resultOf}
 use Rattle.model.specs.Demand3.{demand3}
 use Rattle.search.specs.Search.{workWords, searchResult}
 use Rattle.search.specs.Right.{search-early}
-use Rattle.answers.specs.Runs.{isRefusal, runFits, whole as wholeOf, levelFits, numberAt, wholeAt, lastBefore, runOk, runsOk}
+use Rattle.answers.specs.Runs.{lastRefusal, isRefusal, runFits, whole as wholeOf, levelFits, numberAt, wholeAt, lastBefore, runOk, runsOk}
 use Rattle.answers.specs.Rules.{level-fits, runs-none, runs-more, last-next, last-first}
 use Rattle.answers.specs.Writer.{answerLength, answerNumber}
 
@@ -101,9 +101,9 @@ abbrev pub Writable : Result → Type 0
 Writable (found c ns) = ((room : ℕ) → answerNumber ns room ≡ pick (leb (answerLength (length ns)) room) 0 15) × (5 * (length ns / 5) ≡ length ns)
 Writable (refused n) = isRefusal n ≡ true
 
-refusal-is : (n : ℕ) → (n ≡ 0 → ⊥) → n ≤ 17 → isRefusal n ≡ true
+refusal-is : (n : ℕ) → (n ≡ 0 → ⊥) → leb n lastRefusal ≡ true → isRefusal n ≡ true
 unfolding isRefusal
-refusal-is n h k = rw (ne-eqb n 0 h, le-leb n 17 k)
+refusal-is n h k = rw (ne-eqb n 0 h) k
 
 number-is : (ns : List ℤ) (room : ℕ) → (length ns ≡ 0 → ⊥) → length ns % 5 ≡ 0 → runsOk ns (length ns / 5) ≡ true → answerNumber ns room ≡ pick (leb (answerLength (length ns)) room) 0 15
 unfolding answerNumber
@@ -129,7 +129,7 @@ module _ (P : Plan) (zs : List ℤ) (words room : ℕ) where
 
   -- a number before 14 is the only refusal there
   early : (n : ℕ) → searchNumber P (length zs) ≡ n → (n ≡ 0 → ⊥) → Writable (searchResult P zs words room)
-  early n e h = subst Writable (sym (search-early P zs words room n (sym e) h)) (refusal-is n h (omega (arith, e, search-low P (length zs))))
+  early n e h = subst Writable (sym (search-early P zs words room n (sym e) h)) (refusal-is n h (early-has (λ (k : ℕ). leb k lastRefusal) n refl (subst (λ (k : ℕ). isEarly k ≡ true) e (search-is-early P (length zs)))))
 
   late : searchNumber P (length zs) ≡ 0 → mag (P .lo) < 32768 → mag (P .hi) < 32768 → Writable (searchResult P zs words room)
   unfolding searchResult isRefusal

@@ -20,19 +20,24 @@ use Rattle.plan.specs.declared.EdgeStep.the-variants.{AddEdge, RefuseEdge}
 use Rattle.plan.specs.declared.Answer.{Answer}
 use Rattle.plan.specs.declared.Answer.the-variants.{Done, Refused}
 use Rattle.plan.specs.Build.{pick, gridOk, statesOk, blank, refusedAt, done, openNumber, openPlan, edgeOf, hasEdge, freshEdge, readEdge, edgeStep, addStep, planNumber, changeNumber, addEdge, withLabel, labelNumber, labelStep, addLabel, closed, sealPlan}
-use Rattle.model.specs.Bools.{clash}
-use Rattle.model.specs.Checked.{plan-low, label-low}
+use Rattle.model.specs.Checked.{isEarly, early-has, plan-is-early, label-is-early}
 use Rattle.fields.specs.declared.Field.{Field}
 use Rattle.fields.specs.declared.Field.the-variants.{Body, Wrong}
 use Rattle.fields.specs.Fields.{rowOf, mayStand, lengthFits, countFits, checkedField, fieldAt, fieldNumber, partOf}
-use Rattle.fields.specs.Laws.{field-is}
-use Rattle.fields.specs.Tags.{at-4}
+use Rattle.fields.specs.Tags.{nothing-after}
+use Rattle.answers.specs.Runs.{lastRefusal}
 use Rattle.files.specs.declared.FileRead.{FileRead}
 use Rattle.files.specs.Reader.{refusedFile, levelAt, gridNumber, openBodies, edgeBody, labelBody, entryBody, onAnswer, atEnd, finishFile, onField, entriesFrom, onOpened, onStates, onGrid, planFile}
 
--- a number of the lists, not above 12
+-- a number of the lists
 abbrev pub listed : ℕ → Bool
-listed n = pick (eqb n 0) false (leb n 12)
+listed n = pick (eqb n 0) false (leb n lastRefusal)
+
+abbrev low : ℕ → Type 0
+low n = leb n lastRefusal ≡ true
+
+early-low : (n : ℕ) → isEarly n ≡ true → low n
+early-low n = early-has (λ (k : ℕ). leb k lastRefusal) n refl
 
 abbrev pub answerListed : Answer → Bool
 answerListed Done = true
@@ -53,12 +58,12 @@ either f true x y h k = h
 either f false x y h k = k
 
 -- x where the number is 0, else what it makes of the number
-unless-zero : {A : Type 0} (f : A → Bool) (n : ℕ) (x : A) (y : ℕ → A) → n ≤ 12 → f x ≡ true → (listed n ≡ true → f (y n) ≡ true) → f (pick (eqb n 0) x (y n)) ≡ true
+unless-zero : {A : Type 0} (f : A → Bool) (n : ℕ) (x : A) (y : ℕ → A) → low n → f x ≡ true → (listed n ≡ true → f (y n) ≡ true) → f (pick (eqb n 0) x (y n)) ≡ true
 unless-zero f n x y l h k = go (eqb n 0) refl
   where
     go : (b : Bool) → eqb n 0 ≡ b → f (pick b x (y n)) ≡ true
     go true e = h
-    go false e = k (rw (e, le-leb n 12 l))
+    go false e = k (rw e l)
 
 field-listed : (s : List ℕ) (at stage : ℕ) → fieldListed (fieldAt s at stage) ≡ true
 unfolding fieldAt checkedField
@@ -83,7 +88,7 @@ end-listed : (s : List ℕ) (at : ℕ) → listed (fieldNumber (fieldAt s at 4))
 end-listed s at = go (fieldAt s at 4) refl (field-listed s at 4)
   where
     go : (f : Field) → fieldAt s at 4 ≡ f → fieldListed f ≡ true → listed (fieldNumber f) ≡ true
-    go (Body t st l) e h = clash (sym (at-4 t) ∙ field-is s at 4 e .stands)
+    go (Body t st l) e h = absurd (nothing-after s at e)
     go (Wrong n) e h = h
 
 -- ---- the plan calls
@@ -97,14 +102,14 @@ open-listed lo hi s a b = go (gridOk lo hi) (statesOk s a b)
     go true false = refl
     go false q = refl
 
-change-low : (p : Plan) → changeNumber p ≤ 12
+change-low : (p : Plan) → low (changeNumber p)
 unfolding changeNumber
 change-low p = go (eqb (planNumber p) 0) (p .sealed)
   where
-    go : (a b : Bool) → pick a (pick b 11 0) (planNumber p) ≤ 12
-    go true true = omega arith
-    go true false = omega arith
-    go false b = plan-low p
+    go : (a b : Bool) → low (pick a (pick b 11 0) (planNumber p))
+    go true true = refl
+    go true false = refl
+    go false b = early-low (planNumber p) (plan-is-early p)
 
 step-listed : (p : Plan) (f t k : ℕ) (r : EdgeRead) → builtListed (addStep p (readEdge (p .edges) (p .edgecount) f t k r)) ≡ true
 step-listed p f t k Not = refl
@@ -130,7 +135,7 @@ unfolding addLabel
 label-listed p a b c =
     let l : Label = record { p = a; q = b; c = c } in
     unless-zero builtListed (changeNumber p) _ (refusedAt p) (change-low p)
-    (unless-zero builtListed (labelNumber (p .labels) (p .labelcount) l) (done (withLabel p l)) (refusedAt p) (label-low (p .labels) (p .labelcount) l) refl (λ h. h))
+    (unless-zero builtListed (labelNumber (p .labels) (p .labelcount) l) (done (withLabel p l)) (refusedAt p) (early-low (labelNumber (p .labels) (p .labelcount) l) (label-is-early (p .labels) (p .labelcount) l)) refl (λ h. h))
     (λ h. h)
 
 seal-listed : (p : Plan) → builtListed (sealPlan p) ≡ true
@@ -174,14 +179,14 @@ entries-listed (suc k) s p at stage = go (fieldAt s at stage) (field-listed s at
     go (Wrong n) h rec = wrong-file n h
     go (Body t st l) h rec = either readListed (eqb t 0x05) (finishFile s p st l) (onAnswer (entriesFrom k s (entryBody t (partOf s st l) p .plan) (st + l) (rowOf t .next)) (entryBody t (partOf s st l) p .answer)) (finish-listed s p st l) (on-answer (entriesFrom k s (entryBody t (partOf s st l) p .plan) (st + l) (rowOf t .next)) (entryBody t (partOf s st l) p .answer) (rec (entryBody t (partOf s st l) p .plan) (st + l) (rowOf t .next)) (entry-listed t (partOf s st l) p))
 
-grid-low : (b : List ℕ) → gridNumber b ≤ 12
+grid-low : (b : List ℕ) → low (gridNumber b)
 unfolding gridNumber
 grid-low b = go (eqb (length b) 4) (gridOk (levelAt b 0) (levelAt b 2))
   where
-    go : (p q : Bool) → pick p (pick q 0 4) 3 ≤ 12
-    go true true = omega arith
-    go true false = omega arith
-    go false q = omega arith
+    go : (p q : Bool) → low (pick p (pick q 0 4) 3)
+    go true true = refl
+    go true false = refl
+    go false q = refl
 
 pub file-listed : (s : List ℕ) → readListed (planFile s) ≡ true
 unfolding planFile

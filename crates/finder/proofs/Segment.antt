@@ -116,11 +116,7 @@ module _ (b : List ℕ) (zs zs′ : List ℤ) (n : ℕ) (d : (n ≡ decodeNumber
 
 listed-refusal : (n : ℕ) → listed n ≡ true → isRefusal n ≡ true
 unfolding isRefusal
-listed-refusal n h = go (eqb n 0) refl h
-  where
-    go : (b : Bool) → eqb n 0 ≡ b → pick b false (leb n 12) ≡ true → pick b false (leb n 17) ≡ true
-    go true e k = k
-    go false e k = le-leb n 17 (omega (arith, leb-true n 12 k))
+listed-refusal n h = h
 
 module _ (s : List ℕ) (r : FileRead) (e : r ≡ planFile s) (zs : List ℤ) (ws : List ℕ) (runs : List ℤ) (out : List ℕ) where
   abbrev whole : Result

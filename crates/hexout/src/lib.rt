@@ -1,8 +1,11 @@
-// Writes results as lines of hexadecimal, and reads files that stand one behind the other on standard input.
+// Writes results as lines of hexadecimal, and reads files that stand one behind the other on standard input. What is written and which bytes
+// come is outside the logic: the functions that show give nothing back and change nothing, so that they have no promise, and the lines are
+// compared with stored ones.
 use fields::Written;
 ghost use mathlib.Core.Path.{_≡_};
 ghost use Prim.Native.Nat.{_%_};
 ghost use Rattle.hexout.specs.Digits.{digitOf};
+ghost use Rattle.hexout.specs.Input.{FileIn};
 
 // The digit of the low four bits.
 pub fn digit(b: u8) -> u8
@@ -59,7 +62,9 @@ fn next_length() -> usize {
 }
 
 // Reads the next file to the front of a buffer, and answers its length; 65,536 where the input has ended or the file does not fit.
-pub fn read_file(buffer: &mut [u8]) -> usize {
+pub fn read_file(buffer: &mut [u8]) -> usize
+    ensures { λ r. ⌜ FileIn r (now (buffer .entry)) (now (buffer .exit)) ⌝ }
+{
     let n = next_length();
     if buffer.len() <= n {
         return 65536;

@@ -1,9 +1,9 @@
 -- What the plan check (`planNumber P ≡ 0`), and a search or a point that no earlier number refuses, ensure: the proofs of the model rest on
 -- these facts alone, and none is assumed. Assumes nothing.
-use mathlib.Core.Path.{_≡_, refl, sym, _∙_}
+use mathlib.Core.Path.{_≡_, refl, sym, _∙_, ap}
 use mathlib.Core.Bool.{Bool, true, false}
 use mathlib.Core.Logic.{_⊎_, inl, inr}
-use mathlib.Core.List.{List}
+use mathlib.Core.List.{List, [], _∷_}
 use Prim.Native.Nat.{ℕ, zero, suc, _-_, _/_, _%_, _^_, _≤_, _<_}
 use native.Mathlib.Omega.{arith}
 use native.Mathlib.Numerals.{unary-clauses}
@@ -338,56 +338,94 @@ accepted-point P n s m h =
     let k = count-is n c in
     record { plan = checked P a; sealed = b; some-readings = omega (arith, k .0); few-readings = k .1; state = ltb-true s (P .states) d; level = e }
 
--- ---- none of these numbers is 16
+-- ---- the numbers of a refusal before a search looks
 
-pick-low : (b : Bool) (x y k : ℕ) → x ≤ k → y ≤ k → pick b x y ≤ k
-pick-low true x y k h l = h
-pick-low false x y k h l = l
+-- These numbers, and 0. A refusal that a ticket adds to a plan, to a search or to a cost at a point joins the list; all else follows by computing.
+-- 16 is none of them: it says that the search has looked.
+abbrev earlyNumbers : List ℕ
+earlyNumbers = 0 ∷ 4 ∷ 5 ∷ 6 ∷ 7 ∷ 8 ∷ 9 ∷ 10 ∷ 11 ∷ 12 ∷ 13 ∷ []
 
-first-low : (f : ℕ → ℕ) (n k : ℕ) → ((i : ℕ) → f i ≤ k) → firstBelow f n ≤ k
-unfolding firstBelow
-first-low f zero k h = omega arith
-first-low f (suc n) k h = pick-low (eqb (firstBelow f n) 0) (f n) (firstBelow f n) k (h n) (first-low f n k h)
+abbrev isIn : ℕ → List ℕ → Bool
+isIn n [] = false
+isIn n (k ∷ ks) = pick (eqb n k) true (isIn n ks)
 
-step-low : (b : Bool) (es : List Edge) (n f t k : ℕ) (r : EdgeRead) → edgeStepNumber (pick b (RefuseEdge 10) (readEdge es n f t k r)) ≤ 12
-step-low true es n f t k r = omega arith
-step-low false es n f t k Not = omega arith
-step-low false es n f t k (Is e) = go (hasEdge es n f t k)
+abbrev every : (ℕ → Bool) → List ℕ → Bool
+every q [] = true
+every q (k ∷ ks) = pick (q k) (every q ks) false
+
+abbrev pub isEarly : ℕ → Bool
+isEarly n = isIn n earlyNumbers
+
+abbrev pub holdsEarly : (ℕ → Bool) → Bool
+holdsEarly q = every q earlyNumbers
+
+-- what holds of each of them
+all-in : (q : ℕ → Bool) (n : ℕ) (ks : List ℕ) → every q ks ≡ true → isIn n ks ≡ true → q n ≡ true
+all-in q n [] h l = clash l
+all-in q n (k ∷ ks) h l = go (q k) refl (eqb n k) refl h l (all-in q n ks)
   where
-    go : (b : Bool) → edgeStepNumber (freshEdge b e) ≤ 12
-    go true = omega arith
-    go false = omega arith
+    go : (x : Bool) → q k ≡ x → (y : Bool) → eqb n k ≡ y → pick x (every q ks) false ≡ true → pick y true (isIn n ks) ≡ true → (every q ks ≡ true → isIn n ks ≡ true → q n ≡ true) → q n ≡ true
+    go false e y f u v rest = clash u
+    go true e true f u v rest = ap q (eqb-true n k f) ∙ e
+    go true e false f u v rest = rest u v
 
-entry-low : (s : ℕ) (es : List Edge) (n : ℕ) (e : Edge) → entryNumber s es n e ≤ 12
+pub early-has : (q : ℕ → Bool) (n : ℕ) → holdsEarly q ≡ true → isEarly n ≡ true → q n ≡ true
+early-has q n = all-in q n earlyNumbers
+
+early-not-16 : (n : ℕ) → isEarly n ≡ true → n ≡ 16 → ⊥
+early-not-16 n h e = clash (rw e at h)
+
+pick-early : (b : Bool) (x y : ℕ) → isEarly x ≡ true → isEarly y ≡ true → isEarly (pick b x y) ≡ true
+pick-early true x y h l = h
+pick-early false x y h l = l
+
+first-early : (f : ℕ → ℕ) (n : ℕ) → ((i : ℕ) → isEarly (f i) ≡ true) → isEarly (firstBelow f n) ≡ true
+unfolding firstBelow
+first-early f zero h = refl
+first-early f (suc n) h = pick-early (eqb (firstBelow f n) 0) (f n) (firstBelow f n) (h n) (first-early f n h)
+
+step-is-early : (b : Bool) (es : List Edge) (n f t k : ℕ) (r : EdgeRead) → isEarly (edgeStepNumber (pick b (RefuseEdge 10) (readEdge es n f t k r))) ≡ true
+step-is-early true es n f t k r = refl
+step-is-early false es n f t k Not = refl
+step-is-early false es n f t k (Is e) = go (hasEdge es n f t k)
+  where
+    go : (b : Bool) → isEarly (edgeStepNumber (freshEdge b e)) ≡ true
+    go true = refl
+    go false = refl
+
+entry-is-early : (s : ℕ) (es : List Edge) (n : ℕ) (e : Edge) → isEarly (entryNumber s es n e) ≡ true
 unfolding entryNumber edgeStep
-entry-low s es n e = step-low (leb 32 n) es n (e .from) (e .to) (kindNumber (e .kind)) (edgeOf s (e .from) (e .to) (kindNumber (e .kind)) (gapOf (e .kind)) (e .class))
+entry-is-early s es n e = step-is-early (leb 32 n) es n (e .from) (e .to) (kindNumber (e .kind)) (edgeOf s (e .from) (e .to) (kindNumber (e .kind)) (gapOf (e .kind)) (e .class))
 
-pub label-low : (ls : List Label) (n : ℕ) (l : Label) → labelNumber ls n l ≤ 12
+pub label-is-early : (ls : List Label) (n : ℕ) (l : Label) → isEarly (labelNumber ls n l) ≡ true
 unfolding labelNumber
-label-low ls n l =
-    pick-low (leb 64 n) 10 _ 12 (omega arith) (pick-low (eqb (l .p) 0) 8 _ 12 (omega arith) (pick-low (leb (l .q) (l .p)) 8 _ 12 (omega arith)
-    (pick-low (ltb 4096 (l .q)) 8 _ 12 (omega arith) (pick-low (ltb 1 (l .c)) 8 _ 12 (omega arith)
-    (pick-low (eqb n 0) 0 _ 12 (omega arith) (pick-low (ltb (l .p) (getD ls (n - 1) noLabel .q)) 12 0 12 (omega arith) (omega arith)))))))
+label-is-early ls n l =
+    pick-early (leb 64 n) 10 _ refl (pick-early (eqb (l .p) 0) 8 _ refl (pick-early (leb (l .q) (l .p)) 8 _ refl (pick-early (ltb 4096 (l .q)) 8 _ refl (pick-early (ltb 1 (l .c)) 8 _ refl
+    (pick-early (eqb n 0) 0 _ refl (pick-early (ltb (l .p) (getD ls (n - 1) noLabel .q)) 12 0 refl refl))))))
 
-pub plan-low : (P : Plan) → planNumber P ≤ 12
+pub plan-is-early : (P : Plan) → isEarly (planNumber P) ≡ true
 unfolding planNumber openNumber edgesNumber labelsNumber
-plan-low P =
-    pick-low (eqb (openNumber (P .lo) (P .hi) (P .states) (P .start) (P .end)) 0) _ _ 12
-    (pick-low (eqb (edgesNumber (P .states) (P .edges) (P .edgecount)) 0) _ _ 12
-    (first-low (λ i. labelNumber (P .labels) i (getD (P .labels) i noLabel)) (P .labelcount) 12 (λ i. label-low (P .labels) i (getD (P .labels) i noLabel)))
-    (first-low (λ i. entryNumber (P .states) (P .edges) i (getD (P .edges) i noEdge)) (P .edgecount) 12 (λ i. entry-low (P .states) (P .edges) i (getD (P .edges) i noEdge))))
-    (pick-low (gridOk (P .lo) (P .hi)) _ 4 12 (pick-low (statesOk (P .states) (P .start) (P .end)) 0 5 12 (omega arith) (omega arith)) (omega arith))
+plan-is-early P =
+    pick-early (eqb (openNumber (P .lo) (P .hi) (P .states) (P .start) (P .end)) 0) _ _
+    (pick-early (eqb (edgesNumber (P .states) (P .edges) (P .edgecount)) 0) _ _
+    (first-early (λ i. labelNumber (P .labels) i (getD (P .labels) i noLabel)) (P .labelcount) (λ i. label-is-early (P .labels) i (getD (P .labels) i noLabel)))
+    (first-early (λ i. entryNumber (P .states) (P .edges) i (getD (P .edges) i noEdge)) (P .edgecount) (λ i. entry-is-early (P .states) (P .edges) i (getD (P .edges) i noEdge))))
+    (pick-early (gridOk (P .lo) (P .hi)) _ 4 (pick-early (statesOk (P .states) (P .start) (P .end)) 0 5 refl refl) refl)
 
-pub search-low : (P : Plan) (n : ℕ) → searchNumber P n ≤ 13
+pub search-is-early : (P : Plan) (n : ℕ) → isEarly (searchNumber P n) ≡ true
 unfolding searchNumber
-search-low P n =
-    pick-low (eqb (planNumber P) 0) _ (planNumber P) 13
-    (pick-low (P .sealed) _ 11 13 (pick-low (countOk n) _ 9 13 (pick-low (late P n) 13 0 13 (omega arith) (omega arith)) (omega arith)) (omega arith))
-    (omega (arith, plan-low P))
+search-is-early P n =
+    pick-early (eqb (planNumber P) 0) _ (planNumber P) (pick-early (P .sealed) _ 11 (pick-early (countOk n) _ 9 (pick-early (late P n) 13 0 refl refl) refl) refl) (plan-is-early P)
 
-pub point-low : (P : Plan) (n s : ℕ) (m : ℤ) → pointNumber P n s m ≤ 12
+point-is-early : (P : Plan) (n s : ℕ) (m : ℤ) → isEarly (pointNumber P n s m) ≡ true
 unfolding pointNumber
-point-low P n s m =
-    pick-low (eqb (planNumber P) 0) _ (planNumber P) 12
-    (pick-low (P .sealed) _ 11 12 (pick-low (countOk n) _ 9 12 (pick-low (ltb s (P .states)) _ 5 12 (pick-low (onGrid P m) 0 4 12 (omega arith) (omega arith)) (omega arith)) (omega arith)) (omega arith))
-    (plan-low P)
+point-is-early P n s m =
+    pick-early (eqb (planNumber P) 0) _ (planNumber P)
+    (pick-early (P .sealed) _ 11 (pick-early (countOk n) _ 9 (pick-early (ltb s (P .states)) _ 5 (pick-early (onGrid P m) 0 4 refl refl) refl) refl) refl)
+    (plan-is-early P)
+
+pub search-not-16 : (P : Plan) (n : ℕ) → searchNumber P n ≡ 16 → ⊥
+search-not-16 P n = early-not-16 (searchNumber P n) (search-is-early P n)
+
+pub point-not-16 : (P : Plan) (n s : ℕ) (m : ℤ) → pointNumber P n s m ≡ 16 → ⊥
+point-not-16 P n s m = early-not-16 (pointNumber P n s m) (point-is-early P n s m)

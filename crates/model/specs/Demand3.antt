@@ -1,5 +1,5 @@
--- What `resultOf` means: the third condition of acceptance of the scope paper (01), whose sentences are quoted. Allowed, cost and order are
--- those of `Model`. Assumes nothing.
+-- What `resultOf` means: the third condition of acceptance of the scope paper (01), whose sentences are quoted, of the model's result; of the two
+-- calls it is said in `search/specs/Right`. Allowed, cost and order are those of `Model`. Assumes nothing.
 use mathlib.Core.Path.{_≡_, refl, sym, _∙_, ap}
 use mathlib.Core.Logic.{_⊎_, inl, inr}
 use mathlib.Core.Option.{Option, none, some}
@@ -19,20 +19,18 @@ use Rattle.model.specs.Run.{runNumbers}
 use Rattle.model.specs.Listed.{listed, priced, listedAnswer, listedCost}
 use Rattle.model.specs.Refusals.{searchNumber, pointNumber}
 use Rattle.model.specs.Result.{whole, point, Result, found, refused, foundSeg, foundCost, unless, resultOf}
-use Rattle.model.specs.Checked.{built-search, built-point, search-low, point-low}
+use Rattle.model.specs.Checked.{built-search, built-point, search-not-16, point-not-16}
 use Rattle.model.specs.Order.{first-one}
-use Rattle.model.specs.Complete.{listed-first, listed-none, listed-least, listed-point-none, least-one}
+use Rattle.model.specs.Complete.{listed-first, listed-none, listed-least, listed-point-none}
 
 pub record Demand3 (P : Plan) (zs : List ℤ) : Type 0 where
   -- "The cost and the whole list of runs that a search gives, where it is not refused, equal those of the segmentation that comes first in the
   -- order among the cheapest allowed ones."
   pub whole-found : (c : ℕ) (ns : List ℤ) → resultOf P zs whole ≡ found c ns → (g : Seg) × First P zs g × (cost P zs g ≡ c) × (runNumbers P g ≡ ns)
-  pub found-whole : (g : Seg) → searchNumber P (length zs) ≡ 0 → First P zs g → resultOf P zs whole ≡ found (cost P zs g) (runNumbers P g)
   pub one-first : (g g′ : Seg) → First P zs g → First P zs g′ → g ≡ g′
   -- "A cost at a point that is not refused equals the least of the costs of all segmentations allowed at that point that end in the named state
   -- at the named level."
   pub point-found : (s : ℕ) (m : ℤ) (c : ℕ) (ns : List ℤ) → resultOf P zs (point s m) ≡ found c ns → LeastCost P zs (length zs) s m c × (ns ≡ [])
-  pub found-point : (s : ℕ) (m : ℤ) (c : ℕ) → pointNumber P (length zs) s m ≡ 0 → LeastCost P zs (length zs) s m c → resultOf P zs (point s m) ≡ found c []
   -- "Each of the two calls gives 16 exactly when no earlier refusal applies and no such segmentation exists."
   pub whole-16 : resultOf P zs whole ≡ refused 16 → (searchNumber P (length zs) ≡ 0) × ((g : Seg) → AllowedWhole P (length zs) g → ⊥)
   pub 16-whole : searchNumber P (length zs) ≡ 0 → ((g : Seg) → AllowedWhole P (length zs) g → ⊥) → resultOf P zs whole ≡ refused 16
@@ -67,20 +65,20 @@ unless-found n r c ns h = go (eqb n 0) refl h
     go true e q = (eqb-true n 0 e, q)
     go false e q = let z : _≡_ {A = ℕ} 0 1 = cc in absurd (omega arith)
 
-unless-refused : (n k : ℕ) (r : Result) → n < k → unless n r ≡ refused k → (n ≡ 0) × (r ≡ refused k)
+unless-refused : (n k : ℕ) (r : Result) → (n ≡ k → ⊥) → unless n r ≡ refused k → (n ≡ 0) × (r ≡ refused k)
 unfolding unless
 unless-refused n k r l h = go (eqb n 0) refl h
   where
     go : (b : Bool) → eqb n 0 ≡ b → cond b r (refused n) ≡ refused k → (n ≡ 0) × (r ≡ refused k)
     go true e q = (eqb-true n 0 e, q)
-    go false e q = let z : n ≡ k = cc in absurd (omega arith)
+    go false e q = let z : n ≡ k = cc in absurd (l z)
 
 loss-take : (zs : List ℤ) (n t : ℕ) (m : ℤ) → t < n → lossAt (take n zs) t m ≡ lossAt zs t m
 unfolding lossAt
 loss-take zs n t m h = ap (λ (z : ℤ). square z m) (getD-take n zs t (pos 0) h)
 
 -- a segmentation of at most n readings costs the same on the first n of zs
-cost-take : (P : Plan) (zs : List ℤ) (n : ℕ) (g : Seg) → readings g ≤ n → cost P (take n zs) g ≡ cost P zs g
+pub cost-take : (P : Plan) (zs : List ℤ) (n : ℕ) (g : Seg) → readings g ≤ n → cost P (take n zs) g ≡ cost P zs g
 unfolding cost readings
 cost-take P zs n (first s m) h = loss-take zs n 0 m h
 cost-take P zs n (next g e m) h = rw (cost-take P zs n g (omega arith), loss-take zs n (readings g) m h) refl
@@ -115,20 +113,12 @@ module _ (P : Plan) (zs : List ℤ) where
 
   -- the whole record, once no number refuses
   module _ (h : searchNumber P n₀ ≡ 0) where
-    is-first : (g : Seg) → First P zs g → (o : Option Seg) → listed P zs ≡ o → foundSeg P (priced P zs o) ≡ found (cost P zs g) (runNumbers P g)
-    is-first g f none e = absurd (listed-none P zs (built-search P n₀ h) e g (f .allowed))
-    is-first g f (some g′) e = rw (first-one P zs g g′ f (listed-first P zs (built-search P n₀ h) g′ e)) refl
-
     is-none : ((g : Seg) → AllowedWhole P n₀ g → ⊥) → (o : Option Seg) → listed P zs ≡ o → foundSeg P (priced P zs o) ≡ refused 16
     is-none never none e = refl
     is-none never (some g) e = absurd (never g (listed-first P zs (built-search P n₀ h) g e .allowed))
 
   -- a point
   module _ (s : ℕ) (m : ℤ) (h : pointNumber P n₀ s m ≡ 0) where
-    is-least : (c : ℕ) → LeastCost P zs n₀ s m c → (o : Option ℕ) → listedCost P zs s m ≡ o → foundCost o ≡ found c []
-    is-least c l none e = let (g, a, p, q, w) = l .met in absurd (listed-point-none P zs (built-point P n₀ s m h) s m e g a p q)
-    is-least c l (some d) e = ap (λ (x : ℕ). found x []) (least-one P zs n₀ s m d c (listed-least P zs (built-point P n₀ s m h) s m d e) l)
-
     is-nowhere : ((g : Seg) → Allowed P n₀ g → lastState P g ≡ s → lastLevel g ≡ m → ⊥) → (o : Option ℕ) → listedCost P zs s m ≡ o → foundCost o ≡ refused 16
     is-nowhere never none e = refl
     is-nowhere never (some c) e = let (g, a, p, q, w) = listed-least P zs (built-point P n₀ s m h) s m c e .met in absurd (never g a p q)
@@ -146,19 +136,17 @@ module _ (P : Plan) (zs : List ℤ) where
         let (h, q) = unless-found (searchNumber P n₀) (foundSeg P (listedAnswer P zs)) c ns e in
         let (g, o, w, r) = seg-found (listed P zs) c ns q in
         (g, listed-first P zs (built-search P n₀ h) g o, w, r);
-    found-whole = λ g h f. unless-none (searchNumber P n₀) (foundSeg P (listedAnswer P zs)) h ∙ is-first h g f (listed P zs) refl;
     one-first = first-one P zs;
     point-found = λ s m c ns e.
         let (h, q) = unless-found (pointNumber P n₀ s m) (foundCost (listedCost P zs s m)) c ns e in
         let (o, w) = cost-found (listedCost P zs s m) c ns q in
         (listed-least P zs (built-point P n₀ s m h) s m c o, w);
-    found-point = λ s m c h l. unless-none (pointNumber P n₀ s m) (foundCost (listedCost P zs s m)) h ∙ is-least s m h c l (listedCost P zs s m) refl;
     whole-16 = λ e.
-        let (h, q) = unless-refused (searchNumber P n₀) 16 (foundSeg P (listedAnswer P zs)) (omega (arith, search-low P n₀)) e in
+        let (h, q) = unless-refused (searchNumber P n₀) 16 (foundSeg P (listedAnswer P zs)) (search-not-16 P n₀) e in
         (h, listed-none P zs (built-search P n₀ h) (seg-none (listed P zs) q));
     16-whole = λ h never. unless-none (searchNumber P n₀) (foundSeg P (listedAnswer P zs)) h ∙ is-none h never (listed P zs) refl;
     point-16 = λ s m e.
-        let (h, q) = unless-refused (pointNumber P n₀ s m) 16 (foundCost (listedCost P zs s m)) (omega (arith, point-low P n₀ s m)) e in
+        let (h, q) = unless-refused (pointNumber P n₀ s m) 16 (foundCost (listedCost P zs s m)) (point-not-16 P n₀ s m) e in
         (h, listed-point-none P zs (built-point P n₀ s m h) s m (cost-none (listedCost P zs s m) q));
     16-point = λ s m h never. unless-none (pointNumber P n₀ s m) (foundCost (listedCost P zs s m)) h ∙ is-nowhere s m h never (listedCost P zs s m) refl;
     whole-early = unless-some (searchNumber P n₀) (foundSeg P (listedAnswer P zs));

@@ -122,18 +122,21 @@ blank-passing lo hi s a b h = record {
   number = whole (blank lo hi s a b) (record { opens = h; edges = no-edges s _; labels = no-labels _ });
 }
 
-open-passing : (lo hi : ℤ) (s a b : ℕ) (p : Plan) → openPlan lo hi s a b ≡ done p → Passing p
+-- an opening that is not refused gives a blank plan
+pub open-is : (lo hi : ℤ) (s a b : ℕ) (p : Plan) → openPlan lo hi s a b ≡ done p → (openNumber lo hi s a b ≡ 0) × (blank lo hi s a b ≡ p)
 unfolding openPlan
-open-passing lo hi s a b p h = go (eqb (openNumber lo hi s a b) 0) refl
+open-is lo hi s a b p h = go (eqb (openNumber lo hi s a b) 0) refl
   where
-    go : (t : Bool) → eqb (openNumber lo hi s a b) 0 ≡ t → Passing p
+    go : (t : Bool) → eqb (openNumber lo hi s a b) 0 ≡ t → (openNumber lo hi s a b ≡ 0) × (blank lo hi s a b ≡ p)
     go true q =
         let e : done (blank lo hi s a b) ≡ done p = rw q at h in
-        let w : blank lo hi s a b ≡ p = ap (λ (x : Built). x .plan) e in
-        rw (← w) (blank-passing lo hi s a b (eqb-true _ 0 q))
+        (eqb-true _ 0 q, ap (λ (x : Built). x .plan) e)
     go false q =
         let e : Refused (openNumber lo hi s a b) ≡ Done = ap (λ (x : Built). x .answer) (rw q at h) in
         let z : _≡_ {A = ℕ} 0 1 = cc in absurd (omega arith)
+
+open-passing : (lo hi : ℤ) (s a b : ℕ) (p : Plan) → openPlan lo hi s a b ≡ done p → Passing p
+open-passing lo hi s a b p h = let (q, w) = open-is lo hi s a b p h in rw (← w) (blank-passing lo hi s a b q)
 
 -- every made plan passes
 pub made-passing : {p : Plan} → Made p → Passing p

@@ -1,26 +1,22 @@
 -- The answers, case by case. Assumes nothing.
 use mathlib.Core.Path.{_≡_, refl, sym, _∙_, ap}
 use mathlib.Core.List.{List, _++_}
-use mathlib.Core.Bool.{Bool, true, false, cond}
+use mathlib.Core.Bool.{true}
 use Prim.Native.Nat.{ℕ, _+_, _*_, _≤_, _<_}
 use native.Mathlib.Omega.{arith}
-use lib.Dec.{eqb, ltb}
 use lib.IntN.{ℤ}
-use lib.ListN.{length, getD, drop, replicate}
-use borrow.Author.Tests.{eq-eqb, ne-eqb, lt-ltb, le-ltb}
+use lib.ListN.{length, drop, replicate}
+use borrow.Author.Tests.{ne-eqb}
 use mathlib.Core.Logic.{inr}
 use Rattle.plan.specs.declared.Plan.{Plan}
-use Rattle.model.specs.Model.{width}
-use Rattle.model.specs.Refusals.{searchNumber, pointNumber}
-use Rattle.model.specs.Checked.{search-low, point-low}
-use Rattle.model.specs.Result.{Result, found, refused, whole, point, resultOf}
+use Rattle.model.specs.Refusals.{searchNumber}
+use Rattle.model.specs.Checked.{search-not-16}
+use Rattle.model.specs.Result.{Result, refused, whole, resultOf}
 use Rattle.saved.specs.Packed.{Inside}
 use Rattle.saved.specs.Walk.{limit}
 use Rattle.search.specs.declared.Found.{Found}
-use Rattle.search.specs.declared.Found.the-variants.{Segmentation, Refused}
-use Rattle.search.specs.declared.Cost.{Cost}
-use Rattle.search.specs.declared.Cost.the-variants.{Least, Refusal}
-use Rattle.search.specs.Search.{workWords, searchResult, pointResult, foundOf, costOf, runsAfter, wordsAfter, looked}
+use Rattle.search.specs.declared.Found.the-variants.{Refused}
+use Rattle.search.specs.Search.{workWords, searchResult, foundOf, runsAfter, wordsAfter, looked}
 use Rattle.search.specs.Right.{search-early, search-short, search-narrow, search-looks}
 use Rattle.search.specs.Solve.{Solved}
 use Rattle.search.proofs.Zeros.{same-drop}
@@ -46,7 +42,7 @@ module _ (P : Plan) (zs : List ℤ) (ws : List ℕ) (out : List ℤ) where
   refusal n e h = (ap foundOf (sym e), (ap (λ (r : Result). runsAfter r out) (sym e), untouched P _ n ws e h))
 
   pub answered-early : (n : ℕ) → n ≡ searchNumber P (length zs) → (n ≡ 0 → ⊥) → Answered P zs (Refused n) ws ws out out
-  answered-early n e h = refusal n (search-early P zs (length ws) (length out) n e h) (λ q. omega (arith, search-low P (length zs)))
+  answered-early n e h = refusal n (search-early P zs (length ws) (length out) n e h) (λ q. search-not-16 P (length zs) (sym e ∙ q))
 
   module _ (n : ℕ) (e : n ≡ searchNumber P (length zs)) (z : n ≡ 0) (need : ℕ) (en : need ≡ workWords P) where
     accepts : searchNumber P (length zs) ≡ 0

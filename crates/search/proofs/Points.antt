@@ -1,36 +1,33 @@
 -- Why the cost at a point is the model's. Assumes nothing.
 use mathlib.Core.Path.{_≡_, refl, sym, _∙_, ap, subst}
 use mathlib.Core.List.{List, _++_}
-use mathlib.Core.Bool.{Bool, true, false, cond}
-use mathlib.Core.Option.{Option, none, some}
-use Prim.Native.Nat.{ℕ, _+_, _-_, _*_, _≤_, _<_}
+use mathlib.Core.Bool.{true}
+use mathlib.Core.Option.{some}
+use Prim.Native.Nat.{ℕ, _+_, _-_, _≤_, _<_}
 use native.Mathlib.Omega.{arith}
-use lib.Dec.{eqb, ltb}
 use lib.IntN.{ℤ, pos, _+ℤ_}
 use lib.ListN.{length, getD, drop, replicate}
 use lib.Signed.{mag}
 use mir.Facts.{toZ-ofZ}
 use mir.Syntax.{w16}
 use mir.Val.{SFits, toZ, ofZ}
-use borrow.Author.Tests.{eq-eqb, ne-eqb, lt-ltb, le-ltb}
 use Rattle.integers.specs.Rep.{iz, nz, _⊕_, eqN}
 use Rattle.plan.specs.declared.Plan.{Plan}
 use Rattle.model.specs.Model.{width, above}
 use Rattle.model.specs.Grid.{grid-index}
 use Rattle.model.specs.Refusals.{pointNumber}
-use Rattle.model.specs.Checked.{Checked, accepted-point, point-low}
+use Rattle.model.specs.Checked.{Checked, accepted-point, point-not-16}
 use Rattle.model.specs.Index.{noCost, held, some-held, none-held}
 use Rattle.model.specs.Held.{Table}
 use Rattle.model.specs.Labels.{usedAt}
 use Rattle.model.specs.Ends.{tableAt, pointAt, point-by}
 use Rattle.model.specs.Tables.{ready-point, table-held}
-use Rattle.model.specs.Result.{Result, found, refused, point, foundCost, resultOf}
+use Rattle.model.specs.Result.{Result, refused, point, foundCost, resultOf}
 use Rattle.layer.specs.declared.Shape.{Shape}
 use Rattle.layer.specs.Layer.{Layer, ShapeOf, baseOf}
 use Rattle.layer.specs.Next.{Task}
 use Rattle.saved.specs.declared.Walk.{Walk}
-use Rattle.saved.specs.Packed.{Inside}
-use Rattle.saved.specs.Walk.{Workspace, At, Walked, limit}
+use Rattle.saved.specs.Walk.{Walked}
 use Rattle.back.specs.Read.{Readable, Reads, layer-reads, layer-readable}
 use Rattle.search.specs.declared.Cost.{Cost}
 use Rattle.search.specs.declared.Cost.the-variants.{Least, Refusal}
@@ -133,7 +130,7 @@ module _ (P : Plan) (zs : List ℤ) (s : ℕ) (m : ℤ) (ws : List ℕ) where
   refusal n e h = (ap costOf (sym e), untouched P _ n ws e h)
 
   pub point-early : (n : ℕ) → n ≡ pointNumber P (length zs) s m → (n ≡ 0 → ⊥) → Answered P zs s m (Refusal n) ws ws
-  point-early n e h = refusal n (point-early-is P zs s m (length ws) n e h) (λ q. omega (arith, point-low P (length zs) s m))
+  point-early n e h = refusal n (point-early-is P zs s m (length ws) n e h) (λ q. point-not-16 P (length zs) s m (sym e ∙ q))
 
   module _ (n : ℕ) (e : n ≡ pointNumber P (length zs) s m) (z : n ≡ 0) (need : ℕ) (en : need ≡ workWords P) where
     ok : pointNumber P (length zs) s m ≡ 0

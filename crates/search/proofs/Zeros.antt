@@ -40,15 +40,15 @@ cleared-all n l l′ h c = ext-getD 0 l′ (replicate n 0 ++ drop n l) size same
     size : length l′ ≡ length (replicate n 0 ++ drop n l)
     size = simp (length-append, length-drop) (omega (arith, c .size, width))
 
+    past : (j : ℕ) → getD l′ (n + j) 0 ≡ getD (replicate n 0 ++ drop n l) (n + j) 0
+    past j = c .rest (n + j) (omega arith) ∙ sym (getD-drop n l j 0) ∙ sym (getD-append-add (replicate n 0) (drop n l) j 0) ∙ ap (λ (x : ℕ). getD (replicate n 0 ++ drop n l) (x + j) 0) width
+
     same : (i : ℕ) → i < length l′ → getD l′ i 0 ≡ getD (replicate n 0 ++ drop n l) i 0
     same i k = go (decLt i n)
       where
         go : Dec (i < n) → getD l′ i 0 ≡ getD (replicate n 0 ++ drop n l) i 0
         go (yes q) = c .zero i q ∙ sym (List·getD-append (replicate n 0) (drop n l) 0 i (omega (arith, width)) ∙ getD-replicate n i 0 0 q)
-        go (no q) =
-            let e : length {A = ℕ} (replicate n 0) + (i - n) ≡ i = omega (arith, width) in
-            let f : n + (i - n) ≡ i = omega arith in
-            c .rest i (omega arith) ∙ ap (λ (x : ℕ). getD l x 0) (sym f) ∙ sym (getD-drop n l (i - n) 0) ∙ sym (getD-append-add (replicate n 0) (drop n l) (i - n) 0) ∙ ap (λ (x : ℕ). getD (replicate n 0 ++ drop n l) x 0) e
+        go (no q) = let f : n + (i - n) ≡ i = omega arith in subst (λ (x : ℕ). getD l′ x 0 ≡ getD (replicate n 0 ++ drop n l) x 0) f (past (i - n))
 
 -- lists that agree from n on
 pub same-drop : (n : ℕ) (l l′ : List ℕ) → length l′ ≡ length l → ((i : ℕ) → n ≤ i → getD l′ i 0 ≡ getD l i 0) → drop n l′ ≡ drop n l

@@ -1,23 +1,67 @@
--- What the results of the two calls mean: with `search-looks` and `point-looks` they are the model's, and `Demand3` says what these are.
--- The laws below it cite `Model` alone. Assumes nothing.
+-- What the two calls answer: the third condition of acceptance of the scope paper (01), whose sentences are quoted, as one claim with one proof
+-- (`Right`, `right`). The results are those of the calls' promises, so that what is lent counts by its length alone, whatever it held before.
+-- Allowed, cost and order are those of `Model`. Assumes nothing.
 use mathlib.Core.Path.{_≡_, refl, sym, _∙_, ap}
+use mathlib.Core.Logic.{_⊎_, _↔_}
 use mathlib.Core.List.{List, []}
 use mathlib.Core.Bool.{Bool, true, false, cond}
-use Prim.Native.Nat.{ℕ, _+_, _*_, _≤_, _<_}
+use Prim.Native.Nat.{ℕ, _*_, _≤_, _<_}
 use native.Mathlib.Omega.{arith}
 use lib.Dec.{eqb, ltb}
 use lib.IntN.{ℤ}
-use lib.ListN.{length}
-use borrow.Author.Tests.{eq-eqb, ne-eqb, eqb-true, lt-ltb, le-ltb}
+use lib.ListN.{length, take}
+use lib.Seq.{length-take-le}
+use borrow.Author.Tests.{eq-eqb, ne-eqb, eqb-true, lt-ltb, le-ltb, ltb-false}
 use Rattle.plan.specs.declared.Plan.{Plan}
-use Rattle.model.specs.Segmentation.{Seg, lastLevel}
+use Rattle.model.specs.Segmentation.{Seg, readings, lastLevel}
 use Rattle.model.specs.Model.{cost, lastState, Allowed, AllowedWhole, LeastCost, First}
 use Rattle.model.specs.Run.{runNumbers}
 use Rattle.model.specs.Refusals.{searchNumber, pointNumber}
-use Rattle.model.specs.Checked.{search-low, point-low}
+use Rattle.model.specs.Checked.{search-not-16, point-not-16}
 use Rattle.model.specs.Result.{Result, found, refused, whole, point, resultOf}
-use Rattle.model.specs.Demand3.{demand3}
+use Rattle.model.specs.Demand3.{demand3, cost-take}
 use Rattle.search.specs.Search.{workWords, searchResult, pointResult, looked}
+
+-- ---- demand 3
+
+-- no earlier refusal applies, to a list of n readings
+abbrev pub SearchAccepts : Plan → ℕ → ℕ → ℕ → Type 0
+SearchAccepts P n words room = (searchNumber P n ≡ 0) × (workWords P ≤ words) × (5 * n ≤ room)
+
+abbrev pub PointAccepts : Plan → ℕ → ℕ → ℤ → ℕ → Type 0
+PointAccepts P n s m words = (pointNumber P n s m ≡ 0) × (workWords P ≤ words)
+
+-- no such segmentation exists
+abbrev pub NoneAllowed : Plan → ℕ → Type 0
+NoneAllowed P n = (g : Seg) → AllowedWhole P n g → ⊥
+
+abbrev pub NoneEnds : Plan → ℕ → ℕ → ℤ → Type 0
+NoneEnds P n s m = (g : Seg) → Allowed P n g → lastState P g ≡ s → lastLevel g ≡ m → ⊥
+
+-- the record zs stopped after n readings: all that is said here of a list is said of this one; its segmentations are those of n readings, at the
+-- costs that they have in zs
+pub record Stopped (P : Plan) (zs : List ℤ) (n s : ℕ) (m : ℤ) (words : ℕ) : Type 0 where
+  pub size : length (take n zs) ≡ n
+  pub costs : (g : Seg) → readings g ≡ n → cost P (take n zs) g ≡ cost P zs g
+  pub least : (c : ℕ) (ns : List ℤ) → pointResult P (take n zs) s m words ≡ found c ns → LeastCost P zs n s m c
+  pub none : (pointResult P (take n zs) s m words ≡ refused 16) ↔ (PointAccepts P n s m words × NoneEnds P n s m)
+
+pub record Right (P : Plan) (zs : List ℤ) (s : ℕ) (m : ℤ) (words room : ℕ) : Type 0 where
+  -- "A cost at a point that is not refused equals the least of the costs of all segmentations allowed at that point that end in the named state
+  -- at the named level."
+  pub point-least : (c : ℕ) (ns : List ℤ) → pointResult P zs s m words ≡ found c ns → LeastCost P zs (length zs) s m c
+  -- "The cost and the whole list of runs that a search gives, where it is not refused, equal those of the segmentation that comes first in the
+  -- order among the cheapest allowed ones." There is one such segmentation.
+  pub search-first : (c : ℕ) (ns : List ℤ) → searchResult P zs words room ≡ found c ns → (g : Seg) × First P zs g × (cost P zs g ≡ c) × (runNumbers P g ≡ ns)
+  pub one-first : (g g′ : Seg) → First P zs g → First P zs g′ → g ≡ g′
+  -- "Each of the two calls gives 16 exactly when no earlier refusal applies and no such segmentation exists."
+  pub search-none : (searchResult P zs words room ≡ refused 16) ↔ (SearchAccepts P (length zs) words room × NoneAllowed P (length zs))
+  pub point-none : (pointResult P zs s m words ≡ refused 16) ↔ (PointAccepts P (length zs) s m words × NoneEnds P (length zs) s m)
+  -- Where no earlier refusal applies, no other number is given: there is an answer, or 16.
+  pub search-else : SearchAccepts P (length zs) words room → ((c : ℕ) × (ns : List ℤ) × (searchResult P zs words room ≡ found c ns)) ⊎ (searchResult P zs words room ≡ refused 16)
+  pub point-else : PointAccepts P (length zs) s m words → ((c : ℕ) × (pointResult P zs s m words ≡ found c [])) ⊎ (pointResult P zs s m words ≡ refused 16)
+  -- "A record stopped at a point is the list of its first n readings, for any n from 1 to its length."
+  pub stopped : (n : ℕ) → n ≤ length zs → Stopped P zs n s m words
 
 -- ---- which case applies
 
@@ -53,59 +97,57 @@ module _ (P : Plan) (zs : List ℤ) (s : ℕ) (m : ℤ) (words : ℕ) where
     unfolding pointResult
     point-looks h = rw (eq-eqb (pointNumber P (length zs) s m) 0 accepts, le-ltb words (workWords P) h) refl
 
--- ---- demand 3
+-- ---- the proof
 
+-- an answer, and 16, are the model's, and no earlier refusal applies
 module _ (P : Plan) (zs : List ℤ) (words room : ℕ) where
-  -- an answer, and 16, are the model's
-  search-model : (r : Result) → looked r ≡ true → searchResult P zs words room ≡ r → resultOf P zs whole ≡ r
+  search-model : (r : Result) → looked r ≡ true → searchResult P zs words room ≡ r → SearchAccepts P (length zs) words room × (resultOf P zs whole ≡ r)
   unfolding searchResult
-  search-model r k e = go (eqb (searchNumber P (length zs)) 0) (ltb words (workWords P)) (ltb room (5 * length zs)) e
+  search-model r k e = go (eqb (searchNumber P (length zs)) 0) refl (ltb words (workWords P)) refl (ltb room (5 * length zs)) refl e
     where
-      go : (a b c : Bool) → cond a (cond b (refused 14) (cond c (refused 15) (resultOf P zs whole))) (refused (searchNumber P (length zs))) ≡ r → resultOf P zs whole ≡ r
-      go true false false q = q
-      go true false true q = absurd (omega (arith, eqb-true 15 16 (ap looked q ∙ k)))
-      go true true c q = absurd (omega (arith, eqb-true 14 16 (ap looked q ∙ k)))
-      go false b c q = absurd (omega (arith, eqb-true (searchNumber P (length zs)) 16 (ap looked q ∙ k), search-low P (length zs)))
-
-  -- (b) the answer is allowed, cheapest and first
-  pub search-first : (c : ℕ) (ns : List ℤ) → searchResult P zs words room ≡ found c ns → (g : Seg) × First P zs g × (cost P zs g ≡ c) × (runNumbers P g ≡ ns)
-  search-first c ns e = demand3 P zs .whole-found c ns (search-model (found c ns) refl e)
-
-  -- (c) 16 says that none exists
-  pub search-none : searchResult P zs words room ≡ refused 16 → (g : Seg) → AllowedWhole P (length zs) g → ⊥
-  search-none e = demand3 P zs .whole-16 (search-model (refused 16) refl e) .1
-
-  -- and both are said wherever they hold
-  module _ (accepts : searchNumber P (length zs) ≡ 0) (h : workWords P ≤ words) (k : 5 * length zs ≤ room) where
-    pub first-search : (g : Seg) → First P zs g → searchResult P zs words room ≡ found (cost P zs g) (runNumbers P g)
-    first-search g f = search-looks P zs words room accepts h k ∙ demand3 P zs .found-whole g accepts f
-
-    pub none-search : ((g : Seg) → AllowedWhole P (length zs) g → ⊥) → searchResult P zs words room ≡ refused 16
-    none-search never = search-looks P zs words room accepts h k ∙ demand3 P zs .16-whole accepts never
+      go : (a : Bool) → eqb (searchNumber P (length zs)) 0 ≡ a → (b : Bool) → ltb words (workWords P) ≡ b → (c : Bool) → ltb room (5 * length zs) ≡ c
+          → cond a (cond b (refused 14) (cond c (refused 15) (resultOf P zs whole))) (refused (searchNumber P (length zs))) ≡ r → SearchAccepts P (length zs) words room × (resultOf P zs whole ≡ r)
+      go true ea false eb false ec q = ((eqb-true (searchNumber P (length zs)) 0 ea, ltb-false words (workWords P) eb, ltb-false room (5 * length zs) ec), q)
+      go true ea false eb true ec q = absurd (omega (arith, eqb-true 15 16 (ap looked q ∙ k)))
+      go true ea true eb c ec q = absurd (omega (arith, eqb-true 14 16 (ap looked q ∙ k)))
+      go false ea b eb c ec q = absurd (search-not-16 P (length zs) (eqb-true (searchNumber P (length zs)) 16 (ap looked q ∙ k)))
 
 module _ (P : Plan) (zs : List ℤ) (s : ℕ) (m : ℤ) (words : ℕ) where
-  point-model : (r : Result) → looked r ≡ true → pointResult P zs s m words ≡ r → resultOf P zs (point s m) ≡ r
+  point-model : (r : Result) → looked r ≡ true → pointResult P zs s m words ≡ r → PointAccepts P (length zs) s m words × (resultOf P zs (point s m) ≡ r)
   unfolding pointResult
-  point-model r k e = go (eqb (pointNumber P (length zs) s m) 0) (ltb words (workWords P)) e
+  point-model r k e = go (eqb (pointNumber P (length zs) s m) 0) refl (ltb words (workWords P)) refl e
     where
-      go : (a b : Bool) → cond a (cond b (refused 14) (resultOf P zs (point s m))) (refused (pointNumber P (length zs) s m)) ≡ r → resultOf P zs (point s m) ≡ r
-      go true false q = q
-      go true true q = absurd (omega (arith, eqb-true 14 16 (ap looked q ∙ k)))
-      go false b q = absurd (omega (arith, eqb-true (pointNumber P (length zs) s m) 16 (ap looked q ∙ k), point-low P (length zs) s m))
+      go : (a : Bool) → eqb (pointNumber P (length zs) s m) 0 ≡ a → (b : Bool) → ltb words (workWords P) ≡ b
+          → cond a (cond b (refused 14) (resultOf P zs (point s m))) (refused (pointNumber P (length zs) s m)) ≡ r → PointAccepts P (length zs) s m words × (resultOf P zs (point s m) ≡ r)
+      go true ea false eb q = ((eqb-true (pointNumber P (length zs) s m) 0 ea, ltb-false words (workWords P) eb), q)
+      go true ea true eb q = absurd (omega (arith, eqb-true 14 16 (ap looked q ∙ k)))
+      go false ea b eb q = absurd (point-not-16 P (length zs) s m (eqb-true (pointNumber P (length zs) s m) 16 (ap looked q ∙ k)))
 
-  -- (a) a cost is the least over all that is allowed there and ends in the state at the level
-  pub point-least : (c : ℕ) (ns : List ℤ) → pointResult P zs s m words ≡ found c ns → LeastCost P zs (length zs) s m c
-  point-least c ns e = demand3 P zs .point-found s m c ns (point-model (found c ns) refl e) .0
+  least-of : (c : ℕ) (ns : List ℤ) → pointResult P zs s m words ≡ found c ns → LeastCost P zs (length zs) s m c
+  least-of c ns e = demand3 P zs .point-found s m c ns (point-model (found c ns) refl e .1) .0
 
-  -- (c)
-  pub point-none : pointResult P zs s m words ≡ refused 16 → (g : Seg) → Allowed P (length zs) g → lastState P g ≡ s → lastLevel g ≡ m → ⊥
-  point-none e = demand3 P zs .point-16 s m (point-model (refused 16) refl e) .1
+  none-of : (pointResult P zs s m words ≡ refused 16) ↔ (PointAccepts P (length zs) s m words × NoneEnds P (length zs) s m)
+  none-of = (
+    λ e. let q = point-model (refused 16) refl e in (q .0, demand3 P zs .point-16 s m (q .1) .1),
+    λ q. point-looks P zs s m words (q .0 .0) (q .0 .1) ∙ demand3 P zs .16-point s m (q .0 .0) (q .1),
+  )
 
-  module _ (accepts : pointNumber P (length zs) s m ≡ 0) (h : workWords P ≤ words) where
-    pub least-point : (c : ℕ) → LeastCost P zs (length zs) s m c → pointResult P zs s m words ≡ found c []
-    least-point c l = point-looks P zs s m words accepts h ∙ demand3 P zs .found-point s m c accepts l
-
-    pub none-point : ((g : Seg) → Allowed P (length zs) g → lastState P g ≡ s → lastLevel g ≡ m → ⊥) → pointResult P zs s m words ≡ refused 16
-    none-point never = point-looks P zs s m words accepts h ∙ demand3 P zs .16-point s m accepts never
-
--- (d) a record stopped at a point is the list of its first n readings: `Demand3`, field `stopped`
+pub right : (P : Plan) (zs : List ℤ) (s : ℕ) (m : ℤ) (words room : ℕ) → Right P zs s m words room
+right P zs s m words room = record {
+  point-least = least-of P zs s m words;
+  search-first = λ c ns e. demand3 P zs .whole-found c ns (search-model P zs words room (found c ns) refl e .1);
+  one-first = demand3 P zs .one-first;
+  search-none = (
+    λ e. let q = search-model P zs words room (refused 16) refl e in (q .0, demand3 P zs .whole-16 (q .1) .1),
+    λ q. search-looks P zs words room (q .0 .0) (q .0 .1) (q .0 .2) ∙ demand3 P zs .16-whole (q .0 .0) (q .1),
+  );
+  point-none = none-of P zs s m words;
+  search-else = λ a. rw (search-looks P zs words room (a .0) (a .1) (a .2)) (demand3 P zs .whole-else (a .0));
+  point-else = λ a. rw (point-looks P zs s m words (a .0) (a .1)) (demand3 P zs .point-else s m (a .0));
+  stopped = λ n h. let q = length-take-le n zs h in record {
+    size = q;
+    costs = λ g e. cost-take P zs n g (omega arith);
+    least = λ c ns e. demand3 P zs .stopped n h s m c .0 (least-of P (take n zs) s m words c ns e);
+    none = rw q at (none-of P (take n zs) s m words);
+  };
+}
