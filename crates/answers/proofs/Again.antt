@@ -23,7 +23,7 @@ use Rattle.fields.specs.Put.{written}
 use Rattle.answers.specs.declared.AnswerRead.{AnswerRead}
 use Rattle.answers.specs.declared.AnswerRead.the-variants.{Runs, Refusal, Unread}
 use Rattle.answers.specs.Runs.{isRefusal, runFits, whole, numberAt, wholeAt, lastBefore, runsOk}
-use Rattle.answers.specs.Reader.{bodyFits, bodyLast, runsFrom, refusalRead, answerFile, inRoom, onRead, readAnswer, filled, runNumbers, runBody, runsOf}
+use Rattle.answers.specs.Reader.{bodyFits, bodyLast, runsFrom, refusalRead, answerFile, onRead, readAnswer, filled, runNumbers, runBody, runsOf}
 use Rattle.answers.specs.Writer.{runField, runsBytes, answerBytes, refusalBytes, answerLength, answerNumber, refusalNumber, afterAnswer, afterRefusal}
 use Rattle.answers.specs.Rules.{run-parts, run-small, run-level, runs-each, last-next, last-first}
 use Rattle.answers.specs.Lengths.{run-bytes-length, answer-length, Writes, answer-room}

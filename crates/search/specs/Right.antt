@@ -5,22 +5,23 @@ use mathlib.Core.Path.{_≡_, refl, sym, _∙_, ap}
 use mathlib.Core.Logic.{_⊎_, _↔_}
 use mathlib.Core.List.{List, []}
 use mathlib.Core.Bool.{Bool, true, false, cond}
-use Prim.Native.Nat.{ℕ, _*_, _≤_, _<_}
+use Prim.Native.Nat.{ℕ, _*_, _/_, _≤_, _<_}
 use native.Mathlib.Omega.{arith}
 use lib.Dec.{eqb, ltb}
 use lib.IntN.{ℤ}
-use lib.ListN.{length, take}
-use lib.Seq.{length-take-le}
+use lib.ListN.{length, take, drop}
+use lib.Seq.{length-take-le, take-at}
 use borrow.Author.Tests.{eq-eqb, ne-eqb, eqb-true, lt-ltb, le-ltb, ltb-false}
 use Rattle.plan.specs.declared.Plan.{Plan}
 use Rattle.model.specs.Segmentation.{Seg, readings, lastLevel}
 use Rattle.model.specs.Model.{cost, lastState, Allowed, AllowedWhole, LeastCost, First}
-use Rattle.model.specs.Run.{runNumbers}
+use Rattle.model.specs.Run.{runs, runNumbers}
+use Rattle.model.specs.RunLaws.{numbers-length}
 use Rattle.model.specs.Refusals.{searchNumber, pointNumber}
 use Rattle.model.specs.Checked.{search-not-16, point-not-16}
 use Rattle.model.specs.Result.{Result, found, refused, whole, point, resultOf}
 use Rattle.model.specs.Demand3.{demand3, cost-take}
-use Rattle.search.specs.Search.{workWords, searchResult, pointResult, looked}
+use Rattle.search.specs.Search.{workWords, searchResult, pointResult, foundOf, costOf, foundResult, costResult, runsAfter, looked}
 
 -- ---- demand 3
 
@@ -151,3 +152,27 @@ right P zs s m words room = record {
     none = rw q at (none-of P (take n zs) s m words);
   };
 }
+
+-- ---- the answers tell the results
+
+five-each : (P : Plan) (g : Seg) → length (runNumbers P g) ≡ 5 * length (runs P g)
+unfolding runNumbers
+five-each P g = numbers-length (runs P g)
+
+pub search-tells : (P : Plan) (zs : List ℤ) (words : ℕ) (out : List ℤ)
+    → foundResult (foundOf (searchResult P zs words (length out))) (runsAfter (searchResult P zs words (length out)) out) ≡ searchResult P zs words (length out)
+search-tells P zs words out = go (searchResult P zs words (length out)) refl
+  where
+    go : (r : Result) → searchResult P zs words (length out) ≡ r → foundResult (foundOf r) (runsAfter r out) ≡ r
+    go (refused n) e = refl
+    go (found c ns) e =
+        let (_, q) = search-model P zs words (length out) (found c ns) refl e in
+        let (g, _, _, w) = demand3 P zs .whole-found c ns q in
+        ap (found c) (take-at ns (drop (length ns) out) (5 * (length ns / 5)) (omega (arith, five-each P g, ap length w)))
+
+pub point-tells : (P : Plan) (zs : List ℤ) (s : ℕ) (m : ℤ) (words : ℕ) → costResult (costOf (pointResult P zs s m words)) ≡ pointResult P zs s m words
+point-tells P zs s m words = go (pointResult P zs s m words) refl
+  where
+    go : (r : Result) → pointResult P zs s m words ≡ r → costResult (costOf r) ≡ r
+    go (refused n) e = refl
+    go (found c ns) e = ap (found c) (sym (demand3 P zs .point-found s m c ns (point-model P zs s m words (found c ns) refl e .1) .1))

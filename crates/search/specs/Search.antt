@@ -1,10 +1,10 @@
 -- What a search and a cost at a point answer, and what becomes of the lists that they are lent. Assumes nothing.
-use mathlib.Core.List.{List, _++_}
-use mathlib.Core.Bool.{Bool, true, false, cond}
+use mathlib.Core.List.{List, [], _++_}
+use mathlib.Core.Bool.{Bool, true, cond}
 use Prim.Native.Nat.{ℕ, _+_, _*_, _/_}
 use lib.Dec.{eqb, ltb}
 use lib.IntN.{ℤ}
-use lib.ListN.{length, drop, replicate}
+use lib.ListN.{length, take, drop, replicate}
 use Rattle.plan.specs.declared.Plan.{Plan}
 use Rattle.model.specs.Model.{width}
 use Rattle.model.specs.Refusals.{searchNumber, pointNumber}
@@ -40,6 +40,16 @@ foundOf (refused n) = Refused n
 abbrev pub costOf : Result → Cost
 costOf (found c ns) = Least c
 costOf (refused n) = Refusal n
+
+-- and what each case of an answer tells: the number of the refusal; or the cost, with the runs that stand in front of the lent list (`Right`:
+-- `search-tells`, `point-tells`)
+abbrev pub foundResult : Found → List ℤ → Result
+foundResult (Segmentation c k) out = found c (take (5 * k) out)
+foundResult (Refused n) out = refused n
+
+abbrev pub costResult : Cost → Result
+costResult (Least c) = found c []
+costResult (Refusal n) = refused n
 
 -- "Runs fill the front of their buffer; the rest, and on refusal all of it, stays."
 abbrev pub runsAfter : Result → List ℤ → List ℤ
