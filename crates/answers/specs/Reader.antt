@@ -14,6 +14,12 @@ use Rattle.answers.specs.Runs.{isRefusal, runFits}
 use Rattle.answers.specs.declared.AnswerRead.{AnswerRead}
 use Rattle.answers.specs.declared.AnswerRead.the-variants.{Runs, Refusal, Unread}
 
+-- the refusal of the file itself, 0 where it was read
+abbrev pub readNumber : AnswerRead → ℕ
+readNumber (Runs cost count) = 0
+readNumber (Refusal n) = 0
+readNumber (Unread n) = n
+
 -- the body of a run keeps the rules after a run that ended at prev; its last reading
 unfoldable pub bodyFits : ℕ → List ℕ → Bool
 bodyFits prev b = pick (eqb (length b) 8) (runFits prev (wordAt b 0) (wordAt b 2) (getD b 4 0) (getD b 7 0)) false
