@@ -1,5 +1,5 @@
--- The results from the last layer as code holds it. What code has to show, once no number of `Refusals` refuses (`refused-by`,
--- `point-refused-by`): `Holding` of the layer after all readings. A point: the least over the counts (`point-by`). A search: the least end, none
+-- The results from the last layer as code holds it. What code has to show, once no number of `Refusals` refuses:
+-- `Holding` of the layer after all readings. A point: the least over the counts (`point-by`). A search: the least end, none
 -- of them (`none-by`) or the lowest state and level that has it (`found-by`); then for each step back the lowest edge and level (`walk-on`, and
 -- `earlier-value` for the next step), down to `walk-first`. Each law ends in `resultOf`. Assumes nothing.
 use mathlib.Core.Path.{_≡_, refl, sym, _∙_, ap}
@@ -23,7 +23,7 @@ use Rattle.model.specs.Least.{given, firstHit, first-hit-is, Upto}
 use Rattle.model.specs.Model.{edgeAt, width, penaltyOf, inSet, onGrid, lossAt, square}
 use Rattle.model.specs.Checked.{Checked, searchNumber, pointNumber, accepted, accepted-point}
 use Rattle.model.specs.Result.{whole, point, found, refused, foundSeg, foundCost, resultOf}
-use Rattle.model.specs.Demand3.{demand3, unless-none}
+use Rattle.model.specs.Demand3.{unless-none}
 use Rattle.model.specs.Agree.{searched, searched-right}
 use Rattle.model.specs.Nodes.{Node, node}
 use Rattle.model.specs.Labels.{counts, usedAt, used-most}
@@ -197,12 +197,6 @@ module _ (P : Plan) (zs : List ℤ) (ch : Checked P) (losses : (t : ℕ) (m : �
   unfolding tableAt
   table-holding zero h = first-holding P zs (λ m on. omega (arith, losses 0 m on)) (ch .grid)
   table-holding (suc t) h = next-holding P zs ch lossMost losses (suc t) (omega arith) (tableAt P zs (suc t)) (table-holding t (omega arith)) (room (suc t) (omega arith))
-
-pub refused-by : (P : Plan) (zs : List ℤ) (n : ℕ) → searchNumber P (length zs) ≡ n → (n ≡ 0 → ⊥) → resultOf P zs whole ≡ refused n
-refused-by P zs = demand3 P zs .whole-early
-
-pub point-refused-by : (P : Plan) (zs : List ℤ) (s : ℕ) (m : ℤ) (n : ℕ) → pointNumber P (length zs) s m ≡ n → (n ≡ 0 → ⊥) → resultOf P zs (point s m) ≡ refused n
-point-refused-by P zs = demand3 P zs .point-early
 
 module _ (P : Plan) (zs : List ℤ) (accepts : searchNumber P (length zs) ≡ 0) (H : Table) (hold : Holding P zs (length zs) H) where
   pub none-by : noCost ≤ leastEndAt P H → resultOf P zs whole ≡ refused 16

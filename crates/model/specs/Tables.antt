@@ -1,6 +1,6 @@
 -- The search in numbers alone. A code that holds, for each reading, the values of `tableAt` has here all that a search or a point asks, with no
 -- layer of the model left in it:
---   before it looks     `refused-by`, `point-refused-by` (`Ends`); else `ready-search` or `ready-point`
+--   before it looks     `ready-search` or `ready-point`, once no number of `Refusals` refuses
 --   a layer             `tableAt`: `firstTable`, then `nextTable` of the one before; edge by edge `edge-skip`, `edge-take` (`Held`), for each
 --                       kind `edgeMin` (`Index`); every number is low or none (`table-cases`)
 --   the labels          `labelOn-at`, `labelOn-none` (`Labels`), then by cases which edges lead to a count, and from which count: `leads-free`,
