@@ -32,7 +32,7 @@ use Rattle.curve.specs.Pieces.{Kept, Made, Apart}
 use Rattle.curve.specs.Curve.{Curve, Limits, curve-as, curve-kept, curve-costs, curve-wider, curve-flat, near}
 use Rattle.edges.specs.Edge.{Hand, Spared, Sound, Off, WithLoss, loss-place}
 use Rattle.layer.specs.declared.Shape.{Shape}
-use Rattle.layer.specs.Layer.{stepMost, baseOf, listAt, layerWords, Shape-small, ShapeOf, Layer}
+use Rattle.layer.specs.Layer.{tempWords, stepMost, baseOf, listAt, layerWords, Shape-small, ShapeOf, Layer}
 use Rattle.layer.specs.Step.{source, offered, offered-by, edgeOf, leastOffered, EdgesReady, TookEdges}
 use Rattle.layer.specs.Next.{Task, Beside, NextReady, NextList, FirstReady, firstCost}
 
@@ -226,10 +226,10 @@ module _ {P : Plan} {zs : List ℤ} {o : Option Label} {t cur dst free k s : ℕ
         besides : Beside dst free (width P) ws w3
         besides = record { size = m3 .kept .size ∙ m2 .spared .size ∙ m1 .kept .size; word = word }
           where
-            off : (i d : ℕ) → free ≤ d → d + size ≤ free + 12 * width P → (i < free) ⊎ (free + 12 * width P ≤ i) → Off d (g .levels) i
+            off : (i d : ℕ) → free ≤ d → d + size ≤ free + tempWords (width P) → (i < free) ⊎ (free + tempWords (width P) ≤ i) → Off d (g .levels) i
             off i d h l = ⊎-elim (λ p. inl (omega arith)) (λ p. inr (omega arith))
 
-            word : (i : ℕ) → Off dst (width P) i → (i < free) ⊎ (free + 12 * width P ≤ i) → getD w3 i 0 ≡ getD ws i 0
+            word : (i : ℕ) → Off dst (width P) i → (i < free) ⊎ (free + tempWords (width P) ≤ i) → getD w3 i 0 ≡ getD ws i 0
             word i p q =
                 let L = a .task .shape .levels in
                 ⊎-elim (λ x. m3 .kept .before i x) (λ x. m3 .kept .after i (omega arith)) p

@@ -44,6 +44,10 @@ layerCell = 4 * counts
 abbrev pub layerWords : Plan → ℕ
 layerWords P = layerCell * (P .states * width P)
 
+-- the words of the three temporary lists over L levels
+abbrev pub tempWords : ℕ → ℕ
+tempWords L = 12 * L
+
 -- the layer after t readings stands at o: the lists of the counts that are used
 pub record Layer (P : Plan) (zs : List ℤ) (t : ℕ) (ws : List ℕ) (o : ℕ) : Type 0 where
   pub list : (k s : ℕ) → k < usedAt P t → s < P .states → Curve t (t * stepMost) (baseOf P) (width P) ws (listAt o (P .states) (width P) k s) (tableAt P zs t k s)

@@ -18,7 +18,7 @@ use Rattle.model.specs.Tables.{Ready}
 use Rattle.curve.specs.Curve.{Curve}
 use Rattle.edges.specs.Edge.{Off}
 use Rattle.layer.specs.declared.Shape.{Shape}
-use Rattle.layer.specs.Layer.{stepMost, baseOf, placeMost, listAt, layerWords, ShapeOf, Layer}
+use Rattle.layer.specs.Layer.{tempWords, stepMost, baseOf, placeMost, listAt, layerWords, ShapeOf, Layer}
 
 -- a plan and a record that no number before 14 refuses, and their shape
 pub record Task (P : Plan) (zs : List ℤ) (g : Shape) : Type 0 where
@@ -28,7 +28,7 @@ pub record Task (P : Plan) (zs : List ℤ) (g : Shape) : Type 0 where
 -- every word outside the list at dst and the three temporary lists at free is as before
 pub record Beside (dst free L : ℕ) (ws ws′ : List ℕ) : Type 0 where
   pub size : length ws′ ≡ length ws
-  pub word : (i : ℕ) → Off dst L i → (i < free) ⊎ (free + 12 * L ≤ i) → getD ws′ i 0 ≡ getD ws i 0
+  pub word : (i : ℕ) → Off dst L i → (i < free) ⊎ (free + tempWords L ≤ i) → getD ws′ i 0 ≡ getD ws i 0
 
 pub record NextReady (P : Plan) (zs : List ℤ) (o : Option Label) (t cur dst free k s : ℕ) (g : Shape) (ws : List ℕ) : Type 0 where
   pub task : Task P zs g
@@ -41,7 +41,7 @@ pub record NextReady (P : Plan) (zs : List ℤ) (o : Option Label) (t cur dst fr
   pub apart : (cur + layerWords P ≤ dst) ⊎ (dst + 4 * width P ≤ cur)
   pub below : cur + layerWords P ≤ free
   pub under : dst + 4 * width P ≤ free
-  pub room : free + 12 * width P ≤ length ws
+  pub room : free + tempWords (width P) ≤ length ws
   pub place : free ≤ placeMost
 
 pub record NextList (P : Plan) (zs : List ℤ) (t dst free k s : ℕ) (ws ws′ : List ℕ) : Type 0 where
@@ -58,14 +58,14 @@ pub record FirstReady (P : Plan) (zs : List ℤ) (dst free k s : ℕ) (g : Shape
   pub more : 0 < length zs
   pub state : s < P .states
   pub under : dst + 4 * width P ≤ free
-  pub room : free + 12 * width P ≤ length ws
+  pub room : free + tempWords (width P) ≤ length ws
 
 -- ---- many lists
 
 -- the lists with Q of the layer at o are those after t readings, and nothing else but the temporary lists is changed
 pub record Lists (Q : ℕ → ℕ → Type 0) (P : Plan) (zs : List ℤ) (t o free : ℕ) (ws ws′ : List ℕ) : Type 0 where
   pub size : length ws′ ≡ length ws
-  pub word : (i : ℕ) → ((k s : ℕ) → Q k s → Off (listAt o (P .states) (width P) k s) (width P) i) → (i < free) ⊎ (free + 12 * width P ≤ i) → getD ws′ i 0 ≡ getD ws i 0
+  pub word : (i : ℕ) → ((k s : ℕ) → Q k s → Off (listAt o (P .states) (width P) k s) (width P) i) → (i < free) ⊎ (free + tempWords (width P) ≤ i) → getD ws′ i 0 ≡ getD ws i 0
   pub list : (k s : ℕ) → Q k s → Curve t (t * stepMost) (baseOf P) (width P) ws′ (listAt o (P .states) (width P) k s) (tableAt P zs t k s)
 
 -- one list, the first n of a count, the first n counts
@@ -87,13 +87,13 @@ pub record StepReady (P : Plan) (zs : List ℤ) (t cur next free : ℕ) (g : Sha
   pub apart : (cur + layerWords P ≤ next) ⊎ (next + layerWords P ≤ cur)
   pub below : cur + layerWords P ≤ free
   pub under : next + layerWords P ≤ free
-  pub room : free + 12 * width P ≤ length ws
+  pub room : free + tempWords (width P) ≤ length ws
   pub place : free ≤ placeMost
 
 -- the layer after t readings stands at o, and no word outside it and the temporary lists is changed
 pub record Stepped (P : Plan) (zs : List ℤ) (t o free : ℕ) (ws ws′ : List ℕ) : Type 0 where
   pub size : length ws′ ≡ length ws
-  pub word : (i : ℕ) → (i < o) ⊎ (o + layerWords P ≤ i) → (i < free) ⊎ (free + 12 * width P ≤ i) → getD ws′ i 0 ≡ getD ws i 0
+  pub word : (i : ℕ) → (i < o) ⊎ (o + layerWords P ≤ i) → (i < free) ⊎ (free + tempWords (width P) ≤ i) → getD ws′ i 0 ≡ getD ws i 0
   pub layer : Layer P zs t ws′ o
 
 -- what is asked before the first layer is made at o
@@ -101,5 +101,5 @@ pub record StartReady (P : Plan) (zs : List ℤ) (o free : ℕ) (g : Shape) (ws 
   pub task : Task P zs g
   pub more : 0 < length zs
   pub under : o + layerWords P ≤ free
-  pub room : free + 12 * width P ≤ length ws
+  pub room : free + tempWords (width P) ≤ length ws
   pub place : free ≤ placeMost

@@ -14,7 +14,7 @@ use Rattle.model.specs.Model.{width}
 use Rattle.model.specs.Checked.{Checked}
 use Rattle.model.specs.Labels.{counts, usedAt, used-most}
 use Rattle.layer.specs.declared.Shape.{Shape}
-use Rattle.layer.specs.Layer.{placeMost, layerCell, layerWords, ShapeOf, Layer}
+use Rattle.layer.specs.Layer.{tempWords, placeMost, layerCell, layerWords, ShapeOf, Layer}
 use Rattle.layer.specs.Next.{StepReady, Stepped, StartReady}
 use Rattle.saved.specs.declared.Walk.{Walk}
 use Rattle.saved.specs.declared.Room.{Room}
@@ -77,7 +77,7 @@ module _ {P : Plan} {zs : List ℤ} {g : Shape} {ws : List ℕ} (a : Workspace P
   -- ---- starting again
 
   -- at the first reading, with no entry in the table
-  pub empty-ready : {x : ℕ} (T : List ℕ) → x ≡ g .states * g .levels → length T ≡ 193 → Workspace P zs g ws × (Places P 0 (layerCell * x) × Stack P zs 0 (set T 96 (freeCell * x + 12 * g .levels)) ws)
+  pub empty-ready : {x : ℕ} (T : List ℕ) → x ≡ g .states * g .levels → length T ≡ 193 → Workspace P zs g ws × (Places P 0 (layerCell * x) × Stack P zs 0 (set T 96 (freeCell * x + tempWords (g .levels))) ws)
   empty-ready {x} T e z = (a, (inl (refl, omega (arith, area-is e)), stack-empty _ T ws z (omega (arith, area-is e, a .task .shape .levels)) stack-fits))
 
   module _ {cur other : ℕ} (places : Places P cur other) where

@@ -12,7 +12,7 @@ use Rattle.model.specs.Labels.{counts, usedAt}
 use Rattle.model.specs.Ends.{tableAt}
 use Rattle.curve.specs.Curve.{Curve}
 use Rattle.layer.specs.declared.Shape.{Shape}
-use Rattle.layer.specs.Layer.{stepMost, baseOf, placeMost, layerCell, layerWords, ShapeOf, Layer}
+use Rattle.layer.specs.Layer.{tempWords, stepMost, baseOf, placeMost, layerCell, layerWords, ShapeOf, Layer}
 use Rattle.layer.specs.Next.{Task}
 use Rattle.saved.specs.declared.Walk.{Walk}
 use Rattle.saved.specs.Packed.{Chain, Inside, Row}
@@ -26,7 +26,7 @@ abbrev pub limitCell : ℕ
 limitCell = 24 * counts
 
 abbrev pub stackAt : Plan → ℕ
-stackAt P = freeCell * (P .states * width P) + 12 * width P
+stackAt P = freeCell * (P .states * width P) + tempWords (width P)
 
 abbrev pub limit : Plan → ℕ
 limit P = limitCell * (P .states * width P)

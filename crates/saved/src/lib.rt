@@ -2,7 +2,7 @@
 // What is saved, and when, never changes an answer: each entry of the stack holds the layer after as many readings as it says.
 //
 // The words of the workspace, with S states and L levels: two layers, from 0 and from LAYER_WORDS · S · L; the three temporary lists, from
-// FREE_AT · S · L; and the stack of saved layers, from FREE_WORDS · L after that up to ALL_WORDS · S · L.
+// FREE_AT · S · L; and the stack of saved layers, from TEMP_WORDS · L after that up to ALL_WORDS · S · L.
 use layer::Shape;
 use plan::Plan;
 ghost use mathlib.Core.Path.{_≡_};
@@ -359,7 +359,7 @@ pub fn begin(
     ensures { λ r. ⌜ Walked plan (now (readings .entry)) 1 (now (table .exit)) (now (ws .entry)) (now (ws .exit)) r ⌝ }
 {
     let a = area(g);
-    table[SLOTS] = FREE_AT * a + layer::FREE_WORDS * (g.levels as usize);
+    table[SLOTS] = FREE_AT * a + layer::TEMP_WORDS * (g.levels as usize);
     restart(
         ws,
         plan,
