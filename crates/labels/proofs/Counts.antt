@@ -1,6 +1,7 @@
 -- Cases of a boundary's definitions, over plain values. Assumes nothing.
 use mathlib.Core.Path.{_≡_, refl, sym, _∙_, ap}
 use mathlib.Core.Option.{Option, none, some}
+use mathlib.Core.Logic.{inr}
 use mathlib.Core.Bool.{Bool, true, false, _&&_, cond}
 use mathlib.Core.List.{List}
 use Prim.Native.Nat.{ℕ, zero, suc, _+_, _-_, _≤_, _<_}
@@ -17,7 +18,7 @@ use Rattle.plan.specs.declared.Kind.the-variants.{Stay, Any, Up, Down, Abs}
 use Rattle.plan.specs.Build.{noLabel}
 use Rattle.model.specs.Model.{labelAt, changeOf, within, markOf, need}
 use Rattle.model.specs.Checked.{Checked}
-use Rattle.model.specs.Labels.{covering, labelOn, used, usedAt, used-most, counts, countAfter, countBefore, labelTest}
+use Rattle.model.specs.Labels.{covering, labelOn, used, usedAt, used-most, counts, countAfter, countBefore, labelTest, within-out}
 use Rattle.labels.specs.declared.Cover.{Cover}
 use Rattle.labels.specs.declared.Cover.the-variants.{Free, By}
 use Rattle.labels.specs.Boundary.{labelOf, leadsFrom}
@@ -54,6 +55,15 @@ module _ (ls : List Label) (t i : ℕ) where
 
   pub cover-not : 0 < i → (b : Bool) → b ≡ within (getD ls (i - 1) noLabel .p) (getD ls (i - 1) noLabel .q) t → b ≡ false → coveringIn ls i t ≡ coveringIn ls (i - 1) t
   cover-not h b e p = ap (λ n. coveringIn ls n t) (omega arith) ∙ step ∙ rw (← e, p) refl
+
+-- a label that starts at t or before and does not have t: none below it has
+closed-below : (ls : List Label) (n t : ℕ) → ((j : ℕ) → j < n → getD ls j noLabel .q ≤ t) → coveringIn ls n t ≡ none
+unfolding coveringIn
+closed-below ls zero t h = refl
+closed-below ls (suc n) t h = rw (within-out (getD ls n noLabel .p) (getD ls n noLabel .q) t (inr (h n (omega arith)))) (closed-below ls n t (λ j k. h j (omega arith)))
+
+pub cover-past : (P : Plan) (t i : ℕ) (l : Label) → Checked P → 0 < i → i ≤ P .labelcount → l ≡ labelAt P (i - 1) → l .p ≤ t → coveringIn (P .labels) (i - 1) t ≡ none
+cover-past P t i l ch h k e q = closed-below (P .labels) (i - 1) t (λ j g. omega (arith, ch .labels .apart j (i - 1) g (omega arith), ap (λ (x : Label). x .p) e))
 
 -- ---- counts
 

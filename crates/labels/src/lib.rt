@@ -45,9 +45,10 @@ fn is_within(l: Label, t: usize) -> bool
     }
 }
 
-// The label that has boundary t, looked up in the plan's list of numbers.
+// The label that has boundary t, looked up in the plan's list of numbers. Labels stand in order, so going down from the last one the first that starts
+// at t or before decides: those below it end before it starts.
 pub fn label_on(plan: Plan, code: &[u64], t: usize) -> Cover
-    requires { ⌜ (plan .labelcount ≤ 64) × Coded plan (now code) ⌝ }
+    requires { ⌜ Checked plan × Coded plan (now code) ⌝ }
     ensures { λ r. ⌜ labelOf r ≡ labelOn plan t ⌝ }
 {
     let mut i = plan.labelcount;
@@ -56,6 +57,9 @@ pub fn label_on(plan: Plan, code: &[u64], t: usize) -> Cover
         let l = coded::label_in(code, i);
         if is_within(l, t) {
             return Cover::By(l);
+        }
+        if (l.p as usize) <= t {
+            return Cover::Free;
         }
     }
     Cover::Free

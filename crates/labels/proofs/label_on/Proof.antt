@@ -1,11 +1,10 @@
--- `labels::label_on`: from the last label to the first. Assumes nothing.
 use Prim.Native.Nat.{_≤_}
 use mathlib.Core.Path.{_≡_, _∙_, sym, ap, refl}
 use mathlib.Core.Option.{some}
 use native.Mathlib.Omega.{arith}
 use Rattle.plan.specs.declared.Plan.{Plan}
 use Rattle.coded.specs.Coded.{Coded, label-got}
-use Rattle.labels.proofs.Counts.{coveringIn, label-on-in, cover-none, cover-here, cover-not, within-got}
+use Rattle.labels.proofs.Counts.{coveringIn, label-on-in, cover-none, cover-here, cover-not, cover-past, within-got}
 use borrow.Author.Needs.{needs}
 use Rattle.labels.proofs.label_on.Statement.{statement}
 use Rattle.labels.proofs.label_on.Tie as tie
@@ -20,37 +19,35 @@ Inv-loop code t i₀ i = (i ≤ i₀) × ((P : Plan) → Coded P code → i₀ �
 abbrev μ-loop : tie.MeasureT-loop
 μ-loop code t i₀ i = i
 
--- src/lib.rt:53:5
 loop-holds : tie.Need-loop-holds Inv-loop μ-loop
 loop-holds c = (omega arith, λ P h g. refl)
 
--- src/lib.rt:54:9
 sub-i : tie.Need-sub-i Inv-loop μ-loop
 sub-i c = omega (arith, c .loop-test .taken)
 
--- src/lib.rt:55:13
 label-in-requires : tie.Need-label-in-requires Inv-loop μ-loop
-label-in-requires c κs = omega (arith, c .loop-test .taken, c .before .loop .inv .0, c .before .before .before .pre .0, c .before .before .before .pre .1 .front .size)
+label-in-requires c κs = omega (arith, c .loop-test .taken, c .before .loop .inv .0, c .before .before .before .pre .0 .few-labels, c .before .before .before .pre .1 .front .size)
 
--- src/lib.rt:56:12
 is-within-requires : tie.Need-is-within-requires Inv-loop μ-loop
 is-within-requires c κs = search needs
 
--- src/lib.rt:57:13
 returns : tie.Need-returns Inv-loop μ-loop
-returns c = ap some (label-got _ _ _ (c .before .before .before .before .before .before .pre .1) (omega (arith, c .before .before .before .loop-test .taken, c .before .before .before .before .loop .inv .0, c .before .before .before .before .before .before .pre .0)) (c .before .before .label-in .ensures)) ∙ sym (label-on-in _ _ ∙ c .before .before .before .before .loop .inv .1 _ (c .before .before .before .before .before .before .pre .1) (c .before .before .before .before .before .before .pre .0) ∙ cover-here _ _ _ (c .before .before .before .loop-test .taken) _ (within-got _ (label-got _ _ _ (c .before .before .before .before .before .before .pre .1) (omega (arith, c .before .before .before .loop-test .taken, c .before .before .before .before .loop .inv .0, c .before .before .before .before .before .before .pre .0)) (c .before .before .label-in .ensures)) (c .before .is-within .ensures)) (c .if1 .taken))
+returns c = ap some (label-got _ _ _ (c .before .before .before .before .before .before .pre .1) (omega (arith, c .before .before .before .loop-test .taken, c .before .before .before .before .loop .inv .0, c .before .before .before .before .before .before .pre .0 .few-labels)) (c .before .before .label-in .ensures)) ∙ sym (label-on-in _ _ ∙ c .before .before .before .before .loop .inv .1 _ (c .before .before .before .before .before .before .pre .1) (c .before .before .before .before .before .before .pre .0 .few-labels) ∙ cover-here _ _ _ (c .before .before .before .loop-test .taken) _ (within-got _ (label-got _ _ _ (c .before .before .before .before .before .before .pre .1) (omega (arith, c .before .before .before .loop-test .taken, c .before .before .before .before .loop .inv .0, c .before .before .before .before .before .before .pre .0 .few-labels)) (c .before .before .label-in .ensures)) (c .before .is-within .ensures)) (c .if1 .taken))
 
--- src/lib.rt:53:5
-loop-less : tie.Need-loop-less Inv-loop μ-loop
-loop-less c = omega (arith, c .before .before .before .loop-test .taken)
+cast-if2 : tie.Need-cast-if2 Inv-loop μ-loop
+cast-if2 c = search needs
 
--- src/lib.rt:53:5
-loop-again : tie.Need-loop-again Inv-loop μ-loop
-loop-again c = (omega (arith, c .before .before .before .before .loop .inv .0), λ P h g. c .before .before .before .before .loop .inv .1 P h g ∙ cover-not _ _ _ (c .before .before .before .loop-test .taken) _ (within-got _ (label-got P _ _ h (omega (arith, c .before .before .before .loop-test .taken, c .before .before .before .before .loop .inv .0)) (c .before .before .label-in .ensures)) (c .before .is-within .ensures)) (c .if1 .left))
-
--- src/lib.rt:48:1
 returns-2 : tie.Need-returns-2 Inv-loop μ-loop
-returns-2 c = sym (label-on-in _ _ ∙ c .before .loop .inv .1 _ (c .before .before .before .pre .1) (c .before .before .before .pre .0) ∙ cover-none _ _ _ (c .loop-test .left))
+returns-2 c = sym (label-on-in _ _ ∙ c .before .before .before .before .before .before .loop .inv .1 _ (c .before .before .before .before .before .before .before .before .pre .1) (c .before .before .before .before .before .before .before .before .pre .0 .few-labels) ∙ cover-not _ _ _ (c .before .before .before .before .before .loop-test .taken) _ (within-got _ (label-got _ _ _ (c .before .before .before .before .before .before .before .before .pre .1) (omega (arith, c .before .before .before .before .before .loop-test .taken, c .before .before .before .before .before .before .loop .inv .0, c .before .before .before .before .before .before .before .before .pre .0 .few-labels)) (c .before .before .before .before .label-in .ensures)) (c .before .before .before .is-within .ensures)) (c .before .before .if1 .left) ∙ cover-past _ _ _ _ (c .before .before .before .before .before .before .before .before .pre .0) (c .before .before .before .before .before .loop-test .taken) (c .before .before .before .before .before .before .loop .inv .0) (label-got _ _ _ (c .before .before .before .before .before .before .before .before .pre .1) (omega (arith, c .before .before .before .before .before .loop-test .taken, c .before .before .before .before .before .before .loop .inv .0, c .before .before .before .before .before .before .before .before .pre .0 .few-labels)) (c .before .before .before .before .label-in .ensures)) (c .if2 .taken))
+
+loop-less : tie.Need-loop-less Inv-loop μ-loop
+loop-less c = omega (arith, c .before .before .before .before .before .loop-test .taken)
+
+loop-again : tie.Need-loop-again Inv-loop μ-loop
+loop-again c = (omega (arith, c .before .before .before .before .before .before .loop .inv .0), λ P h g. c .before .before .before .before .before .before .loop .inv .1 P h g ∙ cover-not _ _ _ (c .before .before .before .before .before .loop-test .taken) _ (within-got _ (label-got P _ _ h (omega (arith, c .before .before .before .before .before .loop-test .taken, c .before .before .before .before .before .before .loop .inv .0)) (c .before .before .before .before .label-in .ensures)) (c .before .before .before .is-within .ensures)) (c .before .before .if1 .left))
+
+returns-3 : tie.Need-returns-3 Inv-loop μ-loop
+returns-3 c = sym (label-on-in _ _ ∙ c .before .loop .inv .1 _ (c .before .before .before .pre .1) (c .before .before .before .pre .0 .few-labels) ∙ cover-none _ _ _ (c .loop-test .left))
 
 pub label-on-spec : {M : Type 1} → statement M
 label-on-spec =
@@ -63,6 +60,8 @@ label-on-spec =
     label-in-requires
     is-within-requires
     returns
+    cast-if2
+    returns-2
     loop-less
     loop-again
-    returns-2)
+    returns-3)

@@ -21,7 +21,7 @@ abbrev μ-loop : tie.MeasureT-loop
 μ-loop ws₀ plan code readings t cur next free g on n k₀ ws k = n - k
 
 label-on-requires : tie.Need-label-on-requires Inv-loop μ-loop
-label-on-requires c κs = (c .before .before .pre .0 .task .ready .plan .few-labels, c .before .before .pre .1)
+label-on-requires c κs = (c .before .before .pre .0 .task .ready .plan, c .before .before .pre .1)
 
 add-counts-at : tie.Need-add-counts-at Inv-loop μ-loop
 add-counts-at c = omega (arith, c .before .before .before .pre .0 .more, c .before .before .before .pre .0 .task .ready .few-readings)

@@ -23,7 +23,7 @@ use Rattle.trace.proofs.run_of.Reads as run-of-reads
 use Rattle.trace.proofs.square_of.Reads as square-of-reads
 
 label-on-requires : tie.Need-label-on-requires
-label-on-requires c κs = (c .before .before .pre .0 .task .ready .plan .few-labels, c .before .before .pre .1)
+label-on-requires c κs = (c .before .before .pre .0 .task .ready .plan, c .before .before .pre .1)
 
 mul-bias : tie.Need-mul-bias
 mul-bias c = omega (arith, c .before .before .before .pre .0 .more, c .before .before .before .pre .0 .task .ready .few-readings)
