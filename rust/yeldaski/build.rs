@@ -1,5 +1,5 @@
 //! Links the proved library: the one that `rt staticlib finder` leaves under `target/` of the repository, or, where `rt ci` has removed that, the copy
-//! that `./test` and `./example` keep under `rust/target/`.
+//! that `tools/build` keeps under `rust/target/`, for `./example`, `./install` and `./test`.
 use std::path::Path;
 
 fn main() {
@@ -14,7 +14,7 @@ fn main() {
         std::process::exit(1);
     };
     if folder == &kept {
-        println!("cargo:warning=linked with the library that ./test or ./example kept; for that of the sources as they are run: rt staticlib finder");
+        println!("cargo:warning=linked with the library that tools/build kept; for that of the sources as they are run: rt staticlib finder");
     }
     println!("cargo:rustc-link-search=native={}", folder.display());
     println!("cargo:rustc-link-lib=static=finder");

@@ -14,17 +14,18 @@ mod search;
 
 use cases::Case;
 use measure::Measured;
+use shared::options::{program, wrong, Opt};
 use std::process::ExitCode;
 
-const HELP: &str = "\
-Usage: bench [--repeats R] [--worst] [--write PATH]
-
-Measures the proved search against the same algorithm in Rust and against a dense programme, and prints tables.
-
-  --repeats R   runs of each call, of which the least time counts (default 5)
-  --worst       also the worst known records (longer)
-  --write PATH  also writes the tables to a file, as a Markdown page; notes that the old page has are kept
-  --help        this text";
+const OPTIONS: [Opt; 3] = [
+    Opt::with("repeats", "R", "runs of each call, of which the least time counts (default 5)"),
+    Opt::flag("worst", "also the worst known records (longer)"),
+    Opt::with(
+        "write",
+        "PATH",
+        "also writes the tables to a file, as a Markdown page; notes that the old page has are kept",
+    ),
+];
 
 /// The heading of what is written by hand, at the end of the page.
 const NOTES: &str = "\n## Notes\n";
@@ -36,40 +37,6 @@ fn with_notes(text: &str, path: &str) -> String {
     format!("{text}{notes}")
 }
 
-struct Options {
-    repeats: usize,
-    worst: bool,
-    write: Option<String>,
-}
-
-/// Takes `--name value` and `--name=value`; none where help was asked for.
-fn parse(words: impl Iterator<Item = String>) -> Result<Option<Options>, String> {
-    let mut options = Options {
-        repeats: 5,
-        worst: false,
-        write: None,
-    };
-    let mut words = words;
-    while let Some(word) = words.next() {
-        let (name, joined) = match word.split_once('=') {
-            Some((name, value)) => (name.to_string(), Some(value.to_string())),
-            None => (word, None),
-        };
-        let mut value = || joined.clone().or_else(|| words.next()).ok_or(format!("{name} needs a value"));
-        match name.as_str() {
-            "--help" | "-h" => return Ok(None),
-            "--worst" => options.worst = true,
-            "--write" => options.write = Some(value()?),
-            "--repeats" => {
-                let text = value()?;
-                options.repeats = text.parse().ok().filter(|r| *r > 0).ok_or(format!("--repeats: {text} is no count"))?;
-            }
-            _ => return Err(format!("unknown option {name}")),
-        }
-    }
-    Ok(Some(options))
-}
-
 fn measure_all(cases: &[Case], repeats: usize) -> Vec<Measured> {
     let measured = |case: &Case| {
         eprintln!("{}", case.name);
@@ -79,24 +46,25 @@ fn measure_all(cases: &[Case], repeats: usize) -> Vec<Measured> {
 }
 
 fn main() -> ExitCode {
-    let options = match parse(std::env::args().skip(1)) {
-        Ok(Some(options)) => options,
-        Ok(None) => {
-            println!("{HELP}");
-            return ExitCode::SUCCESS;
-        }
-        Err(message) => {
-            eprintln!("bench: {message}\n\n{HELP}");
-            return ExitCode::from(2);
-        }
+    let about = "Measures the proved search against the same algorithm in Rust and against a dense programme, and prints tables.";
+    let args = match program("bench", about, &OPTIONS, "") {
+        Ok(args) => args,
+        Err(status) => return status,
     };
-    let usual = measure_all(&cases::usual(), options.repeats);
-    let growing = measure_all(&cases::growing(), options.repeats);
-    let worst = if options.worst { measure_all(&cases::worst(), 1) } else { vec![] };
+    match args.number("repeats", 1, 1_000_000, 5) {
+        Ok(repeats) => run(repeats as usize, args.flag("worst"), args.option("write")),
+        Err(message) => wrong("bench", &message),
+    }
+}
+
+fn run(repeats: usize, with_worst: bool, page: Option<&str>) -> ExitCode {
+    let usual = measure_all(&cases::usual(), repeats);
+    let growing = measure_all(&cases::growing(), repeats);
+    let worst = if with_worst { measure_all(&cases::worst(), 1) } else { vec![] };
     let text = page::write(&usual, &growing, &worst);
     print!("{text}");
-    if let Some(path) = options.write {
-        if let Err(error) = std::fs::write(&path, with_notes(&text, &path)) {
+    if let Some(path) = page {
+        if let Err(error) = std::fs::write(path, with_notes(&text, path)) {
             eprintln!("bench: {path}: {error}");
             return ExitCode::FAILURE;
         }

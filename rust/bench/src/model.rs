@@ -1,4 +1,5 @@
 //! Plans as plain data, and what the labels make of the count of changes at a boundary.
+use shared::{fields, PENALTIES};
 
 #[derive(Clone, Copy, Debug, PartialEq)]
 pub enum Kind {
@@ -36,11 +37,9 @@ pub struct Plan {
     pub labels: Vec<Label>,
 }
 
-const PENALTIES: [i64; 16] = [0, 1, 2, 5, 10, 20, 50, 100, 200, 500, 1000, 2000, 5000, 10000, 20000, 50000];
-
 impl Edge {
     pub fn penalty(&self) -> i64 {
-        PENALTIES[self.class]
+        i64::from(PENALTIES[self.class])
     }
 }
 
@@ -51,14 +50,8 @@ impl Plan {
 
     /// The bytes of a plan file, with one reading.
     pub fn file(&self) -> Vec<u8> {
-        let two = |value: i64| (value as i16).to_be_bytes();
-        let mut out = vec![];
-        let mut field = |tag: u8, body: &[u8]| {
-            out.extend([tag, 0, body.len() as u8]);
-            out.extend_from_slice(body);
-        };
-        field(1, &[two(self.lo), two(self.hi)].concat());
-        field(2, &[self.states as u8, self.start, self.end]);
+        let mut file = fields::grid(self.lo as i16, self.hi as i16);
+        file.extend(fields::states(self.states as u8, self.start, self.end));
         for e in &self.edges {
             let (kind, gap) = match e.kind {
                 Kind::Stay => (0, 0),
@@ -67,15 +60,13 @@ impl Plan {
                 Kind::Down(gap) => (3, gap),
                 Kind::Abs(gap) => (4, gap),
             };
-            let gap = two(gap);
-            field(3, &[e.from as u8, e.to as u8, kind, gap[0], gap[1], e.class as u8]);
+            file.extend(fields::edge(e.from as u8, e.to as u8, kind, gap as u16, e.class as u8));
         }
         for l in &self.labels {
-            let (p, q) = (two(l.p as i64), two(l.q as i64));
-            field(4, &[p[0], p[1], q[0], q[1], l.c as u8]);
+            file.extend(fields::label(l.p as u16, l.q as u16, l.c as u8));
         }
-        field(5, &[0, 0]);
-        out
+        file.extend(fields::readings(&[0]));
+        file
     }
 }
 

@@ -277,7 +277,7 @@ fn write_answer(asker: &mut Asker, rng: &mut Rng, cost: u64, numbers: Vec<i32>) 
 
 /// The runs of a list of numbers, where the fields of an answer file can hold them.
 fn runs_of(numbers: &[i32]) -> Option<Vec<Run>> {
-    if numbers.len() % 5 != 0 {
+    if !numbers.len().is_multiple_of(5) {
         return None;
     }
     let run = |n: &[i32]| {

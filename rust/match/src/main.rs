@@ -1,5 +1,4 @@
 //! Random and damaged files, answered by the proved library and by the oracle in one process, and compared byte for byte.
-mod args;
 mod cases;
 mod checks;
 mod lent;
@@ -11,67 +10,83 @@ mod tally;
 
 /// The oracle's sources, unchanged. Its modules name each other by `crate::`, so they stand at the root of this crate.
 #[rustfmt::skip]
-#[allow(dead_code)]
+#[allow(dead_code, clippy::all)]
 #[path = "../../oracle/src/brute.rs"]
 mod brute;
 #[rustfmt::skip]
-#[allow(dead_code)]
+#[allow(dead_code, clippy::all)]
 #[path = "../../oracle/src/calls.rs"]
 mod calls;
 #[rustfmt::skip]
-#[allow(dead_code)]
+#[allow(dead_code, clippy::all)]
 #[path = "../../oracle/src/extra.rs"]
 mod extra;
 #[rustfmt::skip]
-#[allow(dead_code)]
+#[allow(dead_code, clippy::all)]
 #[path = "../../oracle/src/files.rs"]
 mod files;
 #[rustfmt::skip]
-#[allow(dead_code)]
+#[allow(dead_code, clippy::all)]
 #[path = "../../oracle/src/gen.rs"]
 mod gen;
 #[rustfmt::skip]
-#[allow(dead_code)]
+#[allow(dead_code, clippy::all)]
 #[path = "../../oracle/src/plan.rs"]
 mod plan;
 #[rustfmt::skip]
-#[allow(dead_code)]
+#[allow(dead_code, clippy::all)]
 #[path = "../../oracle/src/rng.rs"]
 mod rng;
 #[rustfmt::skip]
-#[allow(dead_code)]
+#[allow(dead_code, clippy::all)]
 #[path = "../../oracle/src/rules.rs"]
 mod rules;
 #[rustfmt::skip]
-#[allow(dead_code)]
+#[allow(dead_code, clippy::all)]
 #[path = "../../oracle/src/search.rs"]
 mod search;
 #[rustfmt::skip]
-#[allow(dead_code)]
+#[allow(dead_code, clippy::all)]
 #[path = "../../oracle/src/selftest.rs"]
 mod selftest;
 
-use args::{Options, Request};
 use checks::Asker;
 use rng::Rng;
+use shared::options::{program, wrong, Args, Opt};
 use std::process::ExitCode;
 use std::time::{Duration, Instant};
 
 /// No change request is in force.
 pub const RULES: rules::Rules = rules::Rules { tickets: 0 };
 
+const OPTIONS: [Opt; 3] = [
+    Opt::with("cases", "N", "how many cases (default 4000)"),
+    Opt::with("seed", "S", "the seed of the random cases (default 1)"),
+    Opt::with("only", "CASE", "the one case with this number, counted from 0"),
+];
+
+struct Options {
+    cases: u64,
+    seed: u64,
+    only: Option<u64>,
+}
+
 fn main() -> ExitCode {
-    match args::parse(std::env::args().skip(1)) {
-        Ok(Request::Help) => {
-            println!("{}", args::HELP);
-            ExitCode::SUCCESS
-        }
-        Ok(Request::Run(options)) => run(options),
-        Err(message) => {
-            eprintln!("match: {message}\n\n{}", args::HELP);
-            ExitCode::from(2)
-        }
+    let about = "Asks the proved library and the oracle the same questions and compares their answers byte for byte.";
+    let end = "\nThe exit status is 0 where all answers are equal, 1 at the first difference, 2 for wrong options.\n";
+    match program("match", about, &OPTIONS, end) {
+        Ok(args) => options(&args).map_or_else(|message| wrong("match", &message), run),
+        Err(status) => status,
     }
+}
+
+fn options(args: &Args) -> Result<Options, String> {
+    let number = |name: &str, without: u64| args.number(name, 0, u64::MAX, without);
+    Ok(Options {
+        cases: number("cases", 4_000)?,
+        seed: number("seed", 1)?,
+        only: args.flag("only").then(|| number("only", 0)).transpose()?,
+    })
 }
 
 fn run(options: Options) -> ExitCode {

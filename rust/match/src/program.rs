@@ -8,11 +8,12 @@ use std::time::Duration;
 
 /// What the program writes when its standard input is fed so.
 fn written(feed: impl FnOnce(ChildStdin) + Send + 'static) -> Vec<u8> {
-    let program = Path::new(env!("CARGO_MANIFEST_DIR")).join("../../target/bin/segment");
-    assert!(
-        program.exists(),
-        "the program is missing; run in the root of the repository: rt check segment"
-    );
+    // As with the library: the one that `rt` made last, or, where `rt ci` has removed that, the one that `tools/build` kept.
+    let program = ["../../target/bin/segment", "../target/proved/segment"]
+        .map(|path| Path::new(env!("CARGO_MANIFEST_DIR")).join(path))
+        .into_iter()
+        .find(|path| path.exists())
+        .expect("the program is missing; run in the root of the repository: rt check segment");
     let mut child = Command::new(program)
         .stdin(Stdio::piped())
         .stdout(Stdio::piped())
