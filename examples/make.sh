@@ -2,10 +2,10 @@
 # Makes the plan files, answer files and pictures again from the texts and the records.
 set -eu
 cd "$(dirname "$0")"
-cargo build --quiet --offline --release --manifest-path ../rust/Cargo.toml -p command
-yeldaski=${CARGO_TARGET_DIR:-../rust/target}/release/yeldaski
+cargo build --quiet --offline --release --manifest-path ../rust/Cargo.toml --target-dir ../rust/target -p command
+yeldaski=../rust/target/release/yeldaski
 for name in belt pad board; do
     "$yeldaski" make "$name.txt" -o "$name.plan"
     "$yeldaski" run "$name.plan" -o "$name.answer"
-    "$yeldaski" plot "$name.plan" --answer "$name.answer" --plan "$name.txt" -o "$name.svg"
+    "$yeldaski" plot "$name.plan" --answer "$name.answer" --text "$name.txt" -o "$name.svg"
 done

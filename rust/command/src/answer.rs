@@ -15,6 +15,7 @@ pub struct Run {
     pub edge: Option<u8>,
 }
 
+#[derive(Debug, Clone, PartialEq, Eq)]
 pub enum Answer {
     Runs { cost: u64, runs: Vec<Run> },
     Refused(Refusal),

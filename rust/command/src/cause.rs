@@ -1,10 +1,44 @@
-//! What in a refused field is wrong, in words. The number is the proved reader's; this only explains it.
-use crate::fields::{number, signed, Field};
-use crate::locate::{is_cut, Kind, Place};
-use crate::plan::{edge_of, label_of, Edge, KINDS};
+//! What is wrong in a refused file, in words. The number is the proved library's; this only explains it.
+use crate::answer;
+use crate::check::counted;
+use crate::failure::sentence;
+use crate::locate::{agrees, is_cut, locate, Kind, Place};
+use crate::plan::{edge_of, label_of, with_labels, with_masks, Edge, Plan, KINDS, MAX_READINGS};
+use shared::fields::{number, signed, Field};
+use yeldaski::Refusal;
 
 const END: &str = "the end of the file";
 
+/// The cause of a plan file's refusal, by the reader or by a search; the short sentence of the number where none is found.
+pub fn words(file: &[u8], refusal: Refusal) -> String {
+    of_plan_file(file, refusal).unwrap_or_else(|| sentence(refusal).to_string())
+}
+
+pub fn of_plan_file(file: &[u8], refusal: Refusal) -> Option<String> {
+    match Plan::read(file) {
+        Ok(plan) => of_search(file, &plan, refusal).map(|(_, cause)| cause),
+        Err(_) => of_field(Kind::Plan, file, refusal),
+    }
+}
+
+/// The cause of a reader's refusal, where the field that it is about is found.
+pub fn of_field(kind: Kind, file: &[u8], refusal: Refusal) -> Option<String> {
+    let place = locate(kind, file, refusal);
+    agrees(kind, &place, refusal).then(|| cause(kind, file, &place, refusal.0)).flatten()
+}
+
+/// What is wrong with a number of readings, and what to do about too many.
+pub fn of_count(count: usize) -> String {
+    match count {
+        0 => "there are no readings, at least 1 is due".to_string(),
+        _ => format!(
+            "{count} readings, at most {MAX_READINGS}: split the record into parts of at most {MAX_READINGS} readings; each is searched by itself, \
+             so mark as 'start' the states in which a later part may begin"
+        ),
+    }
+}
+
+/// What is wrong in a field that is found.
 pub fn cause(kind: Kind, file: &[u8], place: &Place, refusal: u8) -> Option<String> {
     let Some(field) = place.field() else {
         return Some(format!("the file ends, but {} is due", due(kind, place)));
@@ -15,7 +49,7 @@ pub fn cause(kind: Kind, file: &[u8], place: &Place, refusal: u8) -> Option<Stri
         1 => Some(cut(field)),
         2 => Some(format!("tag {:02X} stands where {} is due", field.tag, due(kind, place))),
         3 => Some(wrong_length(field)),
-        9 => Some(format!("{} readings", field.length.unwrap_or(0) / 2)),
+        9 => Some(of_count(field.length.unwrap_or(0) / 2)),
         // The other numbers are about the content of a whole body.
         _ if is_cut(field) => None,
         4 => Some(grid(body)),
@@ -129,7 +163,7 @@ fn label(body: &[u8]) -> Option<String> {
     let reasons = [
         (label.p == 0, "p is 0, but readings are counted from 1".to_string()),
         (label.q <= label.p, format!("q {} is not above p {}", label.q, label.p)),
-        (label.q > 4096, format!("q {} is above 4096", label.q)),
+        (usize::from(label.q) > MAX_READINGS, format!("q {} is above {MAX_READINGS}", label.q)),
         (label.count > 1, format!("the count {} is above 1", label.count)),
     ];
     reasons.into_iter().find(|(holds, _)| *holds).map(|(_, reason)| reason)
@@ -150,10 +184,75 @@ fn run(file: &[u8], place: &Place, body: &[u8]) -> Option<String> {
     let reasons = [
         (first != due, format!("it starts at reading {first}, but {due} is due")),
         (last < first, format!("it ends at reading {last}, before it starts at {first}")),
-        (last > 4096, format!("it ends at reading {last}, above 4096")),
+        (last > MAX_READINGS as u64, format!("it ends at reading {last}, above {MAX_READINGS}")),
         (state > 7, format!("the state {state} is above 7")),
         (before.is_none() && edge != 255, format!("the first run has edge {edge}, but 255 is due")),
         (before.is_some() && edge > 31, format!("the edge {edge} is above 31")),
     ];
     reasons.into_iter().find(|(holds, _)| *holds).map(|(_, reason)| reason)
+}
+
+/// Why a search of a plan that can be read is refused, and the field to blame (counted from 0) where there is one.
+pub fn of_search(file: &[u8], plan: &Plan, refusal: Refusal) -> Option<(Option<usize>, String)> {
+    match refusal.0 {
+        13 => long_label(plan),
+        16 => Some(no_segmentation(file, plan)),
+        _ => None,
+    }
+}
+
+/// The place of a label among the fields, all counted from 0: grid and states stand first, then the edges.
+fn label_index(plan: &Plan, number: usize) -> Option<usize> {
+    Some(2 + plan.edges.len() + number)
+}
+
+fn long_label(plan: &Plan) -> Option<(Option<usize>, String)> {
+    let count = plan.readings.len();
+    let at = plan.labels.iter().position(|label| usize::from(label.q) > count)?;
+    let (number, q) = (at + 1, plan.labels[at].q);
+    let last = if count == 1 {
+        "there is 1".to_string()
+    } else {
+        format!("there are {count}")
+    };
+    Some((label_index(plan, at), format!("label {number} goes to reading {q}, but {last}")))
+}
+
+/// Asks the search what it says with fewer labels and with wider masks, to name what leaves no segmentation.
+fn no_segmentation(file: &[u8], plan: &Plan) -> (Option<usize>, String) {
+    let none = |file: &[u8]| answer::search(file).err() == Some(Refusal(16));
+    let bare = with_labels(file, |_| false);
+    if none(&bare) {
+        return no_walk(&bare, plan, none);
+    }
+    // The first label that, with all before it, leaves none. It is the last one if none of the others is.
+    let others: Vec<usize> = (1..plan.labels.len()).collect();
+    let at = others.partition_point(|count| !none(&with_labels(file, |index| index < *count)));
+    let alone = none(&with_labels(file, |index| index == at));
+    let together = if alone { "" } else { " together with the labels before it" };
+    let cause = format!("label {} ({}) cannot hold{together}", at + 1, plan.labels[at].text());
+    (label_index(plan, at), cause)
+}
+
+/// The same for a plan that has no segmentation even without its labels.
+fn no_walk(bare: &[u8], plan: &Plan, none: impl Fn(&[u8]) -> bool) -> (Option<usize>, String) {
+    let all = ((1u16 << plan.states) - 1) as u8;
+    let masks = [
+        (plan.start, all, "no segmentation ends in a state in which a record may end"),
+        (all, plan.end, "no segmentation starts in a state in which a record may start"),
+        (
+            all,
+            all,
+            "no segmentation leads from a state in which a record may start to one in which it may end",
+        ),
+    ];
+    match masks.iter().find(|(start, end, _)| !none(&with_masks(bare, *start, *end))) {
+        // Field 02, which holds the masks, is the second of a plan file.
+        Some((_, _, cause)) => (Some(1), cause.to_string()),
+        None => {
+            let readings = counted(plan.readings.len(), "reading");
+            let cause = format!("the edges allow no chain of {readings}; is a stay missing, or a gap wider than the grid?");
+            (None, cause)
+        }
+    }
 }

@@ -1,9 +1,10 @@
 //! Which field of a file a refusal is about.
 use crate::answer;
-use crate::failure::{refused, Failure};
-use crate::fields::{walk, Field};
+use crate::cause::of_field;
+use crate::failure::{numbered, refused, sentence, Failure};
 use crate::plan::MAX_READINGS;
 use crate::streams::Input;
+use shared::fields::{walk, Field};
 use yeldaski::Refusal;
 
 #[derive(Debug, Clone, Copy, PartialEq, Eq)]
@@ -37,15 +38,24 @@ pub fn hint(file: &[u8], wanted: Kind) -> Option<&'static str> {
         ([], _) => Some("the file is empty"),
         ([0x81..=0x83, ..], Kind::Plan) => Some("it looks like an answer file, which 'yeldaski show' shows"),
         ([1, 0, 4, ..], Kind::Answer) => Some("it looks like a plan file, whose answer file 'yeldaski run' makes"),
-        _ if file.iter().take(64).all(printable) => Some("it looks like a text; 'yeldaski make' makes a plan file from a plan text"),
+        _ if file.iter().take(64).all(printable) => {
+            Some("it looks like a text; 'yeldaski make' makes a plan file from a plan text, and --text takes one as it is")
+        }
         _ => None,
     }
 }
 
+/// A file of another sort is told as such; otherwise the cause of the refusal comes first.
 pub fn wrong_file(input: &Input, wanted: Kind, refusal: Refusal) -> Failure {
     let name = if wanted == Kind::Plan { "plan" } else { "answer" };
-    let hint = hint(&input.bytes, wanted).unwrap_or("'yeldaski check' says where");
-    refused(format!("{}: not a good {name} file: {refusal}; {hint}", input.name))
+    let why = match hint(&input.bytes, wanted) {
+        Some(hint) => numbered(hint, refusal),
+        None => {
+            let cause = of_field(wanted, &input.bytes, refusal).unwrap_or_else(|| sentence(refusal).to_string());
+            format!("{}; 'yeldaski check' says where", numbered(&cause, refusal))
+        }
+    };
+    refused(format!("{}: not a good {name} file: {why}", input.name))
 }
 
 /// The fields of a refused file, and the one that is refused (counted from 0). At the end of the file, where a field is due, it is one past the last.

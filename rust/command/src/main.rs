@@ -2,62 +2,41 @@
 #![forbid(unsafe_code)]
 
 mod answer;
-mod args;
 mod cause;
 mod check;
+mod colours;
+mod commands;
 mod csv;
+mod decimal;
+mod decode;
+mod difference;
+mod export;
 mod failure;
-mod fields;
+mod find;
+mod help;
 mod locate;
 mod make;
 mod outline;
+mod picture;
 mod plan;
 mod plot;
+mod progress;
+mod records;
+mod rules;
 mod run;
 mod scale;
 mod show;
 mod streams;
 mod svg;
 mod text;
+mod verify;
 
-use args::{parse, Command, Wish};
+use commands::COMMON;
 use failure::{quoted, usage, Failure};
+use shared::options::parse;
 use std::process::ExitCode;
 
-const HELP: &str = include_str!("help/yeldaski.txt");
-
-const COMMANDS: [Command; 5] = [
-    Command {
-        name: "make",
-        options: &["output"],
-        help: include_str!("help/make.txt"),
-        act: make::act,
-    },
-    Command {
-        name: "run",
-        options: &["output"],
-        help: include_str!("help/run.txt"),
-        act: run::act,
-    },
-    Command {
-        name: "show",
-        options: &["output", "plan", "format"],
-        help: include_str!("help/show.txt"),
-        act: show::act,
-    },
-    Command {
-        name: "check",
-        options: &["output"],
-        help: include_str!("help/check.txt"),
-        act: check::act,
-    },
-    Command {
-        name: "plot",
-        options: &["output", "plan", "answer"],
-        help: include_str!("help/plot.txt"),
-        act: plot::act,
-    },
-];
+const VERSION: &str = concat!("yeldaski ", env!("CARGO_PKG_VERSION"), "\n");
 
 fn main() -> ExitCode {
     let words = std::env::args_os()
@@ -80,23 +59,28 @@ fn main() -> ExitCode {
 fn act(words: Vec<String>) -> Result<u8, Failure> {
     let mut words = words.into_iter();
     let Some(first) = words.next() else {
-        return Err(usage(format!("a command is missing\n\n{}", HELP.trim_end())));
+        return Err(usage(format!("a command is missing\n\n{}", help::program().trim_end())));
     };
-    match first.as_str() {
-        "-h" | "--help" => return print(HELP),
-        "-V" | "--version" => return print(concat!("yeldaski ", env!("CARGO_PKG_VERSION"), "\n")),
-        _ => {}
+    if first.starts_with('-') {
+        let hint = |why: String| usage(format!("{why}\nTry 'yeldaski help'."));
+        let args = parse([first].into_iter().chain(words), &COMMON.each_ref(), 0).map_err(hint)?;
+        return match (args.flag("help"), args.flag("version")) {
+            (true, _) => print(help::program()),
+            (_, true) => print(VERSION.to_string()),
+            _ => Err(hint("a command is missing".to_string())),
+        };
     }
-    let Some(command) = COMMANDS.iter().find(|command| command.name == first) else {
-        return Err(usage(format!("unknown command {}\nTry 'yeldaski --help'.", quoted(&first))));
-    };
-    match parse(command, words.collect())? {
-        Wish::Help => print(command.help),
-        Wish::Act(args) => (command.act)(&args),
+    let command = commands::named(&first)?;
+    let name = command.name;
+    let args = parse(words, &command.all_options(), command.files).map_err(|why| usage(format!("{name}: {why}\nTry 'yeldaski help {name}'.")))?;
+    match (args.flag("help"), args.flag("version")) {
+        (true, _) => print(help::of(command)),
+        (_, true) => print(VERSION.to_string()),
+        _ => (command.act)(&args),
     }
 }
 
-fn print(text: &str) -> Result<u8, Failure> {
+fn print(text: String) -> Result<u8, Failure> {
     streams::write(None, text.as_bytes())?;
     Ok(0)
 }

@@ -1,31 +1,48 @@
 //! `make`: a plan file from a plan text.
-use crate::args::Args;
-use crate::cause::cause;
-use crate::check::counted;
-use crate::csv;
-use crate::failure::{quoted, refused, Failure};
+use crate::cause::{cause, of_count};
+use crate::failure::{numbered, quoted, refused, sentence, Failure};
 use crate::locate::{locate, Kind};
-use crate::plan::{edge_field, grid_field, label_field, readings_field, states_field, Edge};
-use crate::streams::{check_once, read_text, say, write_binary};
+use crate::plan::Edge;
+use crate::records;
+use crate::streams::{check_once, read_text, remember, say, write_binary};
 use crate::text::{self, Source, Text};
+use shared::fields;
+use shared::options::Args;
 use std::path::Path;
 use yeldaski::Refusal;
 
 pub fn act(args: &Args) -> Result<u8, Failure> {
-    let input = read_text(args.file())?;
-    let text = text::parse(&input)?;
-    let readings = readings(&text, args.file())?;
+    let record = args.files().get(1).map(String::as_str);
+    records::check_options(args, record.is_some())?;
+    if record.is_some() {
+        check_once(&[args.file(), record])?;
+    }
+    let mut text = text::parse(&read_text(args.file())?)?;
+    records::choose_labels(args, &mut text, usize::from(record.is_some()));
+    files(&text, args.file()).iter().for_each(|path| remember(path));
+    let readings = match record {
+        Some(path) => records::readings(path, &records::layout(args, &text)?)?,
+        None => readings(&text, args.file())?,
+    };
     let file = bytes(&text, &readings);
-    if let Some(refusal) = Kind::Plan.refusal(&file) {
-        return Err(at_line(&text, readings.len(), &file, refusal));
+    match (Kind::Plan.refusal(&file), record) {
+        (None, _) => {}
+        (Some(refusal @ Refusal(9)), Some(record)) => return Err(refused(format!("{record}: {}", numbered(&of_count(readings.len()), refusal)))),
+        (Some(refusal), _) => return Err(at_line(&text, readings.len(), &file, refusal)),
     }
     warn_of_labels(&text, readings.len());
+    if let Some(warning) = text.plan(readings).far_off() {
+        say(&format!("{}: {warning}", record.unwrap_or(&text.name)));
+    }
     write_binary(args.option("output"), &file)?;
     Ok(0)
 }
 
 /// The readings of all sources in turn. Files are looked for beside the text; `-` is standard input.
-fn readings(text: &Text, text_path: Option<&str>) -> Result<Vec<i16>, Failure> {
+pub fn readings(text: &Text, text_path: Option<&str>) -> Result<Vec<i16>, Failure> {
+    if text.sources.is_empty() {
+        return Err(text::no_readings(&text.name));
+    }
     let standard = |(_, source): &(usize, Source)| matches!(source, Source::File { path, .. } if path == "-").then_some(Some("-"));
     let inputs: Vec<Option<&str>> = [text_path].into_iter().chain(text.sources.iter().filter_map(standard)).collect();
     check_once(&inputs)?;
@@ -33,16 +50,25 @@ fn readings(text: &Text, text_path: Option<&str>) -> Result<Vec<i16>, Failure> {
     for (line, source) in &text.sources {
         match source {
             Source::Inline(readings) => all.extend(readings),
-            Source::File { path, column } => {
+            Source::File { path, layout } => {
                 let input = read_text(Some(&beside(text_path, path))).map_err(|failure| Failure {
-                    message: format!("{}:{line}: {}", text.name, failure.message.trim_start_matches("yeldaski: ")),
+                    message: format!("{}:{line}: {}", text.name, failure.reason()),
                     ..failure
                 })?;
-                all.extend(csv::readings(&input, column.as_ref())?);
+                all.extend(records::of_input(&input, layout)?);
             }
         }
     }
     Ok(all)
+}
+
+/// The files that a text names, whether or not they are read.
+pub fn files(text: &Text, text_path: Option<&str>) -> Vec<String> {
+    let file = |(_, source): &(usize, Source)| match source {
+        Source::File { path, .. } => Some(beside(text_path, path)),
+        Source::Inline(_) => None,
+    };
+    text.sources.iter().filter_map(file).collect()
 }
 
 fn beside(text_path: Option<&str>, path: &str) -> String {
@@ -52,44 +78,45 @@ fn beside(text_path: Option<&str>, path: &str) -> String {
     }
 }
 
-fn bytes(text: &Text, readings: &[i16]) -> Vec<u8> {
-    let mask = |marked: fn(&text::State) -> bool| {
-        // A mask has room for 8 states; the reader refuses more.
-        text.states
-            .iter()
-            .take(8)
-            .enumerate()
-            .fold(0, |mask, (index, state)| mask | u8::from(marked(state)) << index)
-    };
-    let count = text.states.len().min(255) as u8;
-    let mut file = grid_field(text.grid.0, text.grid.1);
-    file.extend(states_field(count, mask(|state| state.start), mask(|state| state.end)));
-    file.extend(text.edges.iter().flat_map(|(_, edge)| edge_field(edge)));
-    file.extend(text.labels.iter().flat_map(|(_, label)| label_field(label)));
-    file.extend(readings_field(readings));
+/// The plan file of a text and a record. Whether it is good is for the reader to say.
+pub fn bytes(text: &Text, readings: &[i16]) -> Vec<u8> {
+    let plan = text.plan(readings.to_vec());
+    let mut file = fields::grid(plan.lo, plan.hi);
+    file.extend(fields::states(plan.states, plan.start, plan.end));
+    for edge in &plan.edges {
+        file.extend(fields::edge(edge.from, edge.to, edge.kind, edge.gap, edge.class));
+    }
+    for label in &plan.labels {
+        file.extend(fields::label(label.p, label.q, label.count));
+    }
+    file.extend(fields::readings(&plan.readings));
     file
 }
 
 /// A refusal of the proved reader, with the line that made the refused field and the cause in the words of the text.
-fn at_line(text: &Text, count: usize, file: &[u8], refusal: Refusal) -> Failure {
+pub fn at_line(text: &Text, count: usize, file: &[u8], refusal: Refusal) -> Failure {
     let place = locate(Kind::Plan, file, refusal);
     let edges_end = 2 + text.edges.len();
     let labels_end = edges_end + text.labels.len();
     let line = match place.index {
-        0 => text.grid_line,
-        1 => text.states.get(8).unwrap_or(&text.states[0]).line,
-        index if index < edges_end => text.edges[index - 2].0,
-        index if index < labels_end => text.labels[index - edges_end].0,
-        _ => text.sources[0].0,
+        0 => Some(text.grid_line),
+        1 => text.states.get(8).or(text.states.first()).map(|state| state.line),
+        index if index < edges_end => Some(text.edges[index - 2].0),
+        index if index < labels_end => Some(text.labels[index - edges_end].0),
+        // A record may also be given beside a text without readings.
+        _ => text.sources.first().map(|(line, _)| *line),
     };
     let cause = match refusal.0 {
         5 => states_cause(text),
         7 => same_edge(text, place.index.saturating_sub(2)),
-        9 => Some(counted(count, "reading")),
+        9 => Some(of_count(count)),
+        10 if place.index < edges_end => Some("this is the 33rd edge, at most 32 are allowed".to_string()),
+        10 => Some("this is the 65th label, at most 64 are allowed".to_string()),
         number => cause(Kind::Plan, file, &place, number),
     };
-    let cause = cause.map_or(String::new(), |cause| format!("; here: {cause}"));
-    refused(format!("{}:{line}: {refusal}{cause}", text.name))
+    let line = line.map_or(String::new(), |line| format!(":{line}"));
+    let message = numbered(cause.as_deref().unwrap_or(sentence(refusal)), refusal);
+    refused(format!("{}{line}: {message}", text.name))
 }
 
 fn same_edge(text: &Text, index: usize) -> Option<String> {
@@ -113,13 +140,12 @@ fn states_cause(text: &Text) -> Option<String> {
 }
 
 /// Such a plan file is good, and may be meant for a longer record, but its own readings cannot be searched.
-fn warn_of_labels(text: &Text, count: usize) {
+pub fn warn_of_labels(text: &Text, count: usize) {
     for (line, label) in text.labels.iter().filter(|(_, label)| usize::from(label.q) > count) {
-        say(&format!(
-            "{}:{line}: warning: the label goes to reading {}, but there are {count}, so a search will be refused ({})",
-            text.name,
-            label.q,
-            Refusal(13)
-        ));
+        let cause = format!(
+            "the label goes to reading {}, but there are {count}, so a search will be refused",
+            label.q
+        );
+        say(&format!("{}:{line}: warning: {}", text.name, numbered(&cause, Refusal(13))));
     }
 }

@@ -1,10 +1,10 @@
 //! A plan: grid, states, edges, labels and readings, and its bytes.
-use crate::fields::{encode, number, signed, walk, Field};
+use crate::check::counted;
+use shared::fields::{number, signed, walk, Field};
+use shared::PENALTIES;
 use yeldaski::Refusal;
 
 pub const MAX_READINGS: usize = 4096;
-
-pub const PENALTIES: [u32; 16] = [0, 1, 2, 5, 10, 20, 50, 100, 200, 500, 1000, 2000, 5000, 10000, 20000, 50000];
 
 pub const KINDS: [&str; 5] = ["stay", "any", "up", "down", "abs"];
 
@@ -20,6 +20,11 @@ pub struct Edge {
 impl Edge {
     pub fn is_change(&self) -> bool {
         self.kind != 0
+    }
+
+    /// What the edge costs. The reader refuses classes above 15.
+    pub fn penalty(&self) -> u32 {
+        PENALTIES.get(usize::from(self.class)).copied().unwrap_or(0)
     }
 
     /// The kind by name, with the gap where it has one.
@@ -51,6 +56,13 @@ pub struct Plan {
     pub readings: Vec<i16>,
 }
 
+impl Label {
+    /// `readings 3 to 5, 1 change`, for messages.
+    pub fn text(&self) -> String {
+        format!("readings {} to {}, {}", self.p, self.q, counted(usize::from(self.count), "change"))
+    }
+}
+
 impl Plan {
     /// The plan of a file. The proved reader decides whether there is one, and decodes the readings.
     pub fn read(file: &[u8]) -> Result<Plan, Refusal> {
@@ -78,6 +90,24 @@ impl Plan {
         (i32::from(self.hi) - i32::from(self.lo) + 1) as usize
     }
 
+    /// The stay from a state to itself, which joins the readings of a run. There is at most one.
+    pub fn own_stay(&self, state: u8) -> Option<&Edge> {
+        self.edges.iter().find(|edge| (edge.from, edge.to, edge.kind) == (state, state, 0))
+    }
+
+    /// Where most readings lie outside the grid, which is allowed, a wrong unit or a wrong column is the likely cause.
+    pub fn far_off(&self) -> Option<String> {
+        let outside = self.readings.iter().filter(|reading| !(self.lo..=self.hi).contains(reading)).count();
+        (2 * outside > self.readings.len()).then(|| {
+            format!(
+                "warning: {outside} of {} readings lie outside the grid {} to {}; are column, scale and grid meant so?",
+                self.readings.len(),
+                self.lo,
+                self.hi
+            )
+        })
+    }
+
     /// The words that a search of this plan has to be lent.
     pub fn work_words(&self) -> usize {
         yeldaski::work_words(usize::from(self.states), self.levels())
@@ -102,30 +132,6 @@ pub fn label_of(body: &[u8]) -> Label {
         q: number(&body[2..4]) as u16,
         count: body[4],
     }
-}
-
-pub fn grid_field(lo: i16, hi: i16) -> Vec<u8> {
-    encode(1, &[lo.to_be_bytes(), hi.to_be_bytes()].concat())
-}
-
-pub fn states_field(count: u8, start: u8, end: u8) -> Vec<u8> {
-    encode(2, &[count, start, end])
-}
-
-pub fn edge_field(edge: &Edge) -> Vec<u8> {
-    let gap = edge.gap.to_be_bytes();
-    encode(3, &[edge.from, edge.to, edge.kind, gap[0], gap[1], edge.class])
-}
-
-pub fn label_field(label: &Label) -> Vec<u8> {
-    let (p, q) = (label.p.to_be_bytes(), label.q.to_be_bytes());
-    encode(4, &[p[0], p[1], q[0], q[1], label.count])
-}
-
-/// A length has two bytes, so the list is cut where it no longer fits; the reader refuses long before.
-pub fn readings_field(readings: &[i16]) -> Vec<u8> {
-    let fitting = &readings[..readings.len().min(usize::from(u16::MAX) / 2)];
-    encode(5, &fitting.iter().flat_map(|reading| reading.to_be_bytes()).collect::<Vec<u8>>())
 }
 
 /// The file with some of its labels only, counted from 0.

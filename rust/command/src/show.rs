@@ -1,139 +1,88 @@
 //! `show`: an answer as a table, CSV or JSON.
-use crate::answer::{self, Answer, Run};
-use crate::args::Args;
-use crate::failure::{quoted, refused, usage, Failure, REFUSED};
-use crate::locate::{wrong_file, Kind};
-use crate::outline::Outline;
-use crate::streams::{check_once, read_binary, read_text, write, Input};
-use crate::text;
-use yeldaski::Refusal;
-
-type Format = (fn(u64, &[Run], &Outline) -> String, fn(Refusal) -> String);
+use crate::answer::Answer;
+use crate::export::{csv_header, csv_rows, json_object, table, Item};
+use crate::failure::{refused, Failure, REFUSED};
+use crate::outline::{Named, Outline};
+use crate::plan::Plan;
+use crate::rules;
+use crate::streams::{check_once, read_binary, say, write, Input};
+use crate::verify::{confirm, read_answer};
+use shared::options::Args;
 
 pub fn act(args: &Args) -> Result<u8, Failure> {
-    let (runs_text, refusal_text): Format = match args.option("format").unwrap_or("table") {
-        "table" => (table, |refusal| format!("{refusal}\n")),
-        "csv" => (csv, refusal_csv),
-        "json" => (json, refusal_json),
-        other => return Err(usage(format!("show: expected --format table, csv or json, found {}", quoted(other)))),
-    };
-    let outline = match args.option("plan") {
-        None => Outline::default(),
-        Some(path) => {
-            check_once(&[args.file(), Some(path)])?;
-            Outline::of_text(&text::parse(&read_text(Some(path))?)?)
-        }
-    };
+    let given = [args.option("plan"), args.option("text")];
+    let paths: Vec<Option<&str>> = [args.file()].into_iter().chain(given.into_iter().filter(Option::is_some)).collect();
+    check_once(&paths)?;
+    let named = args.option("text").map(Named::read).transpose()?;
+    let plan = args.option("plan").map(|path| read_binary(Some(path))).transpose()?;
     let input = read_binary(args.file())?;
-    let (status, shown) = match read_answer(&input)? {
-        Answer::Refused(refusal) => (REFUSED, refusal_text(refusal)),
-        Answer::Runs { cost, runs } => {
-            outline.check(&runs).map_err(|why| refused(format!("{}: {why}", input.name)))?;
-            (0, runs_text(cost, &runs, &outline))
-        }
+    let (item, outline) = match (&plan, &named) {
+        (Some(plan), named) => by_plan(plan, named.as_ref(), &input)?,
+        (None, Some(named)) => by_text(named, &input)?,
+        (None, None) => (item(read_answer(&input)?), Outline::default()),
+    };
+    let shown = match args.option("format") {
+        Some("csv") => csv_header(false) + &csv_rows(&item, &outline, false),
+        Some("json") => json_object(&item, &outline, 0) + "\n",
+        _ => table(&item, &outline),
     };
     write(args.option("output"), shown.as_bytes())?;
-    Ok(status)
+    Ok(match item.answer {
+        Answer::Runs { .. } => 0,
+        Answer::Refused(_) => REFUSED,
+    })
 }
 
-pub fn read_answer(input: &Input) -> Result<Answer, Failure> {
-    answer::read(&input.bytes).map_err(|refusal| wrong_file(input, Kind::Answer, refusal))
-}
-
-fn table(cost: u64, runs: &[Run], outline: &Outline) -> String {
-    let mut rows = vec![["run", "first", "last", "state", "level", "edge"].map(str::to_string)];
-    for (index, run) in runs.iter().enumerate() {
-        let numbers = [index + 1, run.first, run.last].map(|number| number.to_string());
-        let [number, first, last] = numbers;
-        rows.push([number, first, last, outline.state(run.state), run.level.to_string(), entry(run, outline)]);
+fn item(answer: Answer) -> Item {
+    Item {
+        record: None,
+        answer,
+        cause: None,
     }
-    let width = |column: usize| rows.iter().map(|row| row[column].chars().count()).max().unwrap_or(0);
-    let [run, first, last, state, level] = [0, 1, 2, 3, 4].map(width);
-    let mut shown = format!("cost {cost}\n\n");
-    for [a, b, c, d, e, f] in &rows {
-        shown += &format!("{a:>run$}  {b:>first$}  {c:>last$}  {d:<state$}  {e:>level$}  {f}\n");
-    }
-    shown
 }
 
-/// The edge that enters a run, in words where the plan is known.
-fn entry(run: &Run, outline: &Outline) -> String {
-    let Some(number) = run.edge else {
-        return "start".to_string();
+fn by_plan(plan: &Input, named: Option<&Named>, input: &Input) -> Result<(Item, Outline), Failure> {
+    // A plan file that cannot be read may still have its answer file, which holds the refusal.
+    let outline = match Plan::read(&plan.bytes) {
+        Ok(read) => Outline::of_plan(&plan.name, &read, named).map_err(refused)?,
+        Err(_) => Outline::default(),
     };
-    match outline.edge(number) {
-        Some(edge) => format!(
-            "{number} ({} -> {}, {})",
-            outline.state(edge.from),
-            outline.state(edge.to),
-            edge.kind_text()
-        ),
-        None => number.to_string(),
-    }
+    Ok((confirm(plan, input, &outline)?, outline))
 }
 
-fn edge_number(run: &Run) -> String {
-    run.edge.map_or("start".to_string(), |number| number.to_string())
-}
-
-/// The cost belongs to the whole record, so it stands in every line under a name that says so.
-fn csv(cost: u64, runs: &[Run], outline: &Outline) -> String {
-    let mut shown = "run,first,last,state,level,edge,total_cost\n".to_string();
-    for (index, run) in runs.iter().enumerate() {
-        let state = csv_cell(&outline.state(run.state));
-        shown += &format!(
-            "{},{},{},{state},{},{},{cost}\n",
-            index + 1,
-            run.first,
-            run.last,
-            run.level,
-            edge_number(run)
-        );
-    }
-    shown
-}
-
-fn csv_cell(text: &str) -> String {
-    match text.contains([',', '"']) {
-        true => format!("\"{}\"", text.replace('"', "\"\"")),
-        false => text.to_string(),
-    }
-}
-
-fn json(cost: u64, runs: &[Run], outline: &Outline) -> String {
-    let object = |run: &Run| {
-        let name = match outline.plan {
-            Some(_) => format!("\"name\": {}, ", json_text(&outline.state(run.state))),
-            None => String::new(),
-        };
-        let edge = run.edge.map_or("\"start\"".to_string(), |number| number.to_string());
-        let Run {
-            first, last, state, level, ..
-        } = run;
-        format!("    {{\"first\": {first}, \"last\": {last}, \"state\": {state}, {name}\"level\": {level}, \"edge\": {edge}}}")
+/// The text makes the plan file that the answer is judged by. Without its readings there is nothing to search, so only the rules are judged.
+fn by_text(named: &Named, input: &Input) -> Result<(Item, Outline), Failure> {
+    let (outline, name) = (Outline::of_text(&named.text), &named.text.name);
+    let why = match &named.file {
+        Ok(file) => {
+            let plan = Input {
+                name: name.clone(),
+                bytes: file.clone(),
+            };
+            let confirmed = confirm(&plan, input, &outline).map_err(|failure| Failure {
+                message: format!(
+                    "{}\nFor the answer of another record than the text names, give its plan file with --plan.",
+                    failure.message
+                ),
+                ..failure
+            });
+            return Ok((confirmed?, outline));
+        }
+        Err(why) => why,
     };
-    let objects: Vec<String> = runs.iter().map(object).collect();
-    format!("{{\n  \"cost\": {cost},\n  \"runs\": [\n{}\n  ]\n}}\n", objects.join(",\n"))
-}
-
-/// Control characters do not occur: the plan text refuses them.
-fn json_text(text: &str) -> String {
-    format!("\"{}\"", text.replace('\\', "\\\\").replace('"', "\\\"").replace('\t', "\\t"))
-}
-
-fn sentence(refusal: Refusal) -> String {
-    let whole = refusal.to_string();
-    whole.split_once(": ").map_or(whole.clone(), |(_, sentence)| sentence.to_string())
-}
-
-fn refusal_csv(refusal: Refusal) -> String {
-    format!("refusal,sentence\n{},{}\n", refusal.0, csv_cell(&sentence(refusal)))
-}
-
-fn refusal_json(refusal: Refusal) -> String {
-    format!(
-        "{{\n  \"refusal\": {},\n  \"sentence\": {}\n}}\n",
-        refusal.0,
-        json_text(&sentence(refusal))
-    )
+    let answer = read_answer(input)?;
+    let checked = match &answer {
+        Answer::Refused(_) => "the refusal was".to_string(),
+        Answer::Runs { runs, .. } => {
+            if let Some(rule) = rules::broken(&named.plan, &outline, runs) {
+                return Err(refused(format!("{}: not an answer of {name}: {rule}", input.name)));
+            }
+            format!("states, edges, gaps and labels agree with {name}; the cost and that nothing is cheaper were")
+        }
+    };
+    say(&format!(
+        "{}: {checked} not checked, since {why}: give the plan file with --plan",
+        input.name
+    ));
+    Ok((item(answer), outline))
 }

@@ -9,13 +9,13 @@ const READINGS: &str = "05 0004 0003 0004 ";
 const COST: &str = "81 0008 0000000000000001 ";
 const RUN: &str = "82 0008 0001 0002 00 0003 FF ";
 
-/// The lines of a report on a refused file: number, place and cause.
 fn report(file: &str) -> (i32, String) {
     let done = run(&["check"], &hex(file));
     assert_eq!(done.err, "");
     (done.status, done.text())
 }
 
+/// The report on a refused file has the cause first, then the place, then the number.
 fn refused(file: &str, number: u8, place: &str, cause: &str) {
     let (status, text) = report(file);
     assert_eq!(status, 1, "{file}");
@@ -41,9 +41,22 @@ fn good_files() {
         report("83 0001 07"),
         (
             0,
-            "standard input: answer file, good\n  holds refusal 7: same from, to and kind as an earlier edge\n".to_string()
+            "standard input: answer file, good\n  holds refusal 7: two edges have the same states and kind\n".to_string()
         )
     );
+}
+
+/// The whole report, once: title, cause, place, number with a short sentence. A file of another sort is told at the end.
+#[test]
+fn order_of_a_report() {
+    let lines = "plan file, refused\n  cause: the gap 2000 is above 1023\n  field 3, tag 03 (edge 0), at byte 13 (0xD)\n  \
+                 refusal 6: an edge is wrong: its states, kind, gap or class\n";
+    let (status, text) = report(&[ONE, "03 0006 00 00 02 07D0 00", READINGS].concat());
+    assert_eq!((status, text), (1, format!("standard input: {lines}")));
+    let lines = "plan file, good to read, but a search of it is refused\n  cause: no segmentation ends in a state in which a record may end\n  \
+                 field 2, tag 02 (states), at byte 7 (0x7)\n  refusal 16: no segmentation is allowed by this plan\n";
+    let (status, text) = report(&[GRID, "02 0003 02 01 02", STAY, READINGS].concat());
+    assert_eq!((status, text), (1, format!("standard input: {lines}")));
 }
 
 #[test]
@@ -236,13 +249,13 @@ fn contents_of_a_plan() {
         &[ONE, "05 0000"].concat(),
         9,
         "field 3, tag 05 (readings), at byte 13 (0xD)",
-        "0 readings",
+        "there are no readings, at least 1 is due",
     );
     refused(
         &[ONE, "05 2002"].concat(),
         9,
         "field 3, tag 05 (readings), at byte 13 (0xD)",
-        "4097 readings",
+        "4097 readings, at most 4096: split the record",
     );
 }
 
@@ -314,13 +327,13 @@ fn refusals_of_a_search() {
     assert!(beyond.text().contains("refusal 13: "), "{}", beyond.text());
     assert!(beyond
         .text()
-        .contains("\n  field 5, tag 04 (label 2), at byte 30 (0x1E)\n  cause: the label goes to reading 9, but there are 3\n"));
+        .contains("\n  cause: label 2 goes to reading 9, but there are 3\n  field 5, tag 04 (label 2), at byte 30 (0x1E)\n  refusal 13: "));
     // A stay is no change, so the second of these labels cannot hold.
     let label = check(&text("label 1 to 2 changes 0\nlabel 2 to 3 changes 1\n"));
     assert!(label.text().contains("refusal 16: ") && label.status == 1);
     assert!(label
         .text()
-        .contains("\n  field 5, tag 04 (label 2), at byte 30 (0x1E)\n  cause: the label (readings 2 to 3, 1 change) cannot hold\n"));
+        .contains("\n  cause: label 2 (readings 2 to 3, 1 change) cannot hold\n  field 5, tag 04 (label 2), at byte 30 (0x1E)\n  refusal 16: "));
     refused(
         &[ONE, READINGS].concat(),
         16,
@@ -332,7 +345,7 @@ fn refusals_of_a_search() {
         &[GRID, "02 0003 02 01 02", STAY, READINGS].concat(),
         16,
         states,
-        "no segmentation ends in a state of the end mask",
+        "no segmentation ends in a state in which a record may end",
     );
     // State 1 alone can last, but the record may not start in it.
     refused(
@@ -351,7 +364,7 @@ fn labels_that_exclude_each_other() {
     let done = run(&["check"], &run(&["make"], text.as_bytes()).out);
     assert!(
         done.text()
-            .contains("cause: the label (readings 2 to 3, 1 change) cannot hold together with the labels before it\n"),
+            .contains("cause: label 2 (readings 2 to 3, 1 change) cannot hold together with the labels before it\n"),
         "{}",
         done.text()
     );

@@ -23,16 +23,19 @@ fn files_and_standard_streams() {
     }
 }
 
-/// Text to plan file to answer file to CSV.
+/// Text to plan file to answer file to CSV, of which first, last, state, level, edge and total cost are kept.
 fn answer(text: &str) -> String {
     let plan = run(&["make"], text.as_bytes());
     assert_eq!(plan.status, 0, "{}", plan.err);
     let done = run(&["show", "--format", "csv"], &run(&["run"], &plan.out).out);
-    done.text()
-        .lines()
-        .skip(1)
-        .map(|line| line.split_once(',').expect("row").1.to_string() + "\n")
-        .collect()
+    let csv = done.text();
+    let kept = |line: &str| {
+        let cells: Vec<&str> = line.split(',').collect();
+        [1, 2, 3, 5, 6, 14].map(|column| cells[column]).join(",") + "\n"
+    };
+    let header = "first,last,state,level,edge,total_cost\n";
+    let rows: String = csv.lines().map(kept).collect();
+    rows.strip_prefix(header).expect("the columns").to_string()
 }
 
 /// Plan A of the paper: one state, stay and any.
@@ -54,38 +57,52 @@ fn b(gap: u16) -> String {
 #[test]
 fn examples_of_the_paper() {
     let toy = "2 1 0 4";
-    assert_eq!(a("0 to 4", 1, "", toy), "1,1,0,2,start,3\n2,3,0,0,1,3\n4,4,0,4,1,3\n");
-    assert_eq!(a("0 to 4", 4, "", toy), "1,4,0,2,start,9\n");
-    assert_eq!(a("0 to 4", 1, "label 1 to 4 changes 0", toy), "1,4,0,2,start,9\n");
-    assert_eq!(
-        a("0 to 4", 1, "label 2 to 3 changes 1", toy),
-        "1,2,0,1,start,3\n3,3,0,0,1,3\n4,4,0,4,1,3\n"
-    );
-    assert_eq!(a("-9 to 0", 4, "", "-3 -4"), "1,2,0,-4,start,1\n");
-    assert_eq!(a("0 to 9", 0, "", "3 3"), "1,2,0,3,start,0\n");
+    assert_eq!(a("0 to 4", 1, "", toy), "1,1,0,2,,3\n2,3,0,0,1,3\n4,4,0,4,1,3\n");
+    assert_eq!(a("0 to 4", 4, "", toy), "1,4,0,2,,9\n");
+    assert_eq!(a("0 to 4", 1, "label 1 to 4 changes 0", toy), "1,4,0,2,,9\n");
+    assert_eq!(a("0 to 4", 1, "label 2 to 3 changes 1", toy), "1,2,0,1,,3\n3,3,0,0,1,3\n4,4,0,4,1,3\n");
+    assert_eq!(a("-9 to 0", 4, "", "-3 -4"), "1,2,0,-4,,1\n");
+    assert_eq!(a("0 to 9", 0, "", "3 3"), "1,2,0,3,,0\n");
     let swapped = "grid 0 to 9\nstate s start end\nedge s -> s any class 0\nedge s -> s stay\nreadings 3 3\n";
-    assert_eq!(answer(swapped), "1,1,0,3,start,0\n2,2,0,3,0,0\n");
-    assert_eq!(b(0), "1,1,0,1,start,1\n2,3,1,5,2,1\n4,4,0,1,3,1\n");
-    assert_eq!(b(5), "1,1,0,0,start,2\n2,3,1,5,2,2\n4,4,0,1,3,2\n");
-    assert_eq!(b(7), "1,4,0,3,start,16\n");
+    assert_eq!(answer(swapped), "1,1,0,3,,0\n2,2,0,3,0,0\n");
+    assert_eq!(b(0), "1,1,0,1,,1\n2,3,1,5,2,1\n4,4,0,1,3,1\n");
+    assert_eq!(b(5), "1,1,0,0,,2\n2,3,1,5,2,2\n4,4,0,1,3,2\n");
+    assert_eq!(b(7), "1,4,0,3,,16\n");
 }
 
 #[test]
 fn refused_plans_have_answer_files() {
     let cases = [
-        ("", 1),
-        ("00", 1),
-        ("55 0000", 2),
-        ("01 0004 0009 0000", 4),
+        ("", 1, "not a good plan file: the file is empty (refusal 1)"),
+        (
+            "00",
+            1,
+            "not a good plan file: the header should have 3 bytes, but the file ends after 1 of them (refusal 1); 'yeldaski check' says where",
+        ),
+        ("55 0000", 2, "tag 55 stands where tag 01 (grid) is due (refusal 2)"),
+        (
+            "01 0004 0009 0000",
+            4,
+            "not a good plan file: hi 0 is below lo 9 (refusal 4); 'yeldaski check' says where",
+        ),
         // One reading in state 0, but the record must end in state 1.
-        ("01 0004 0000 0006  02 0003 02 01 02  03 0006 00 00 00 0000 00  05 0002 0001", 16),
+        (
+            "01 0004 0000 0006  02 0003 02 01 02  03 0006 00 00 00 0000 00  05 0002 0001",
+            16,
+            "standard input: no segmentation ends in a state in which a record may end (refusal 16)",
+        ),
         // A label to reading 3 in a record of two.
-        ("01 0004 0000 0009  02 0003 01 01 01  04 0005 0001 0003 01  05 0004 0003 0004", 13),
+        (
+            "01 0004 0000 0009  02 0003 01 01 01  04 0005 0001 0003 01  05 0004 0003 0004",
+            13,
+            "standard input: label 1 goes to reading 3, but there are 2 (refusal 13)",
+        ),
     ];
-    for (plan, number) in cases {
+    for (plan, number, words) in cases {
         let done = run(&["run"], &hex(plan));
         assert_eq!((done.status, done.out), (1, vec![0x83, 0, 1, number]), "{plan}");
-        assert!(done.err.contains(&format!("refusal {number}: ")), "{}", done.err);
+        assert!(done.err.contains(words), "{}", done.err);
+        assert!(!done.err.contains("point"), "{}", done.err);
     }
 }
 

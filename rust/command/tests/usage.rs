@@ -38,18 +38,23 @@ fn the_example_of_the_help() {
 
 #[test]
 fn wrong_usage() {
-    let cases: [(&[&str], &str); 11] = [
+    let cases: [(&[&str], &str); 13] = [
         (&[], "a command is missing"),
+        (&["--"], "a command is missing"),
+        (&["-V", "x"], "unexpected word 'x'"),
         (&["mke"], "unknown command 'mke'"),
-        (&["--verbose"], "unknown command '--verbose'"),
+        (&["--verbose"], "unknown option '--verbose'"),
         (&["make", "--plan", "x"], "unknown option '--plan'"),
         (&["run", "-x"], "unknown option '-x'"),
-        (&["run", "a", "b"], "one file at most, but 'a' and 'b' are given"),
-        (&["run", "--", "-a", "-b"], "one file at most, but '-a' and '-b' are given"),
+        (&["run", "a", "b"], "one word at most beside the options, but 'a' and 'b' are given"),
+        (
+            &["run", "--", "-a", "-b"],
+            "one word at most beside the options, but '-a' and '-b' are given",
+        ),
         (&["run", "-o"], "option '-o' needs a value"),
         (&["run", "-o", "a", "--output", "b"], "option --output is given twice"),
-        (&["show", "--format", "xml"], "expected --format table, csv or json, found 'xml'"),
-        (&["show", "--plan", "-"], "standard input is asked for twice"),
+        (&["show", "--format", "xml"], "expected --format table or csv or json, found 'xml'"),
+        (&["show", "--text", "-"], "standard input is asked for twice"),
     ];
     for (args, words) in cases {
         let done = run(args, b"");

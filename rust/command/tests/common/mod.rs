@@ -4,7 +4,7 @@
 use std::fs;
 use std::io::Write;
 use std::path::PathBuf;
-use std::process::{Command, Stdio};
+use std::process::{Command, Output, Stdio};
 
 pub struct Done {
     pub status: i32,
@@ -15,6 +15,12 @@ pub struct Done {
 impl Done {
     pub fn text(&self) -> String {
         String::from_utf8(self.out.clone()).expect("output in UTF-8")
+    }
+
+    /// The messages but for the warning of readings outside the grid, which many a test does not care for.
+    pub fn messages(&self) -> String {
+        let others = self.err.lines().filter(|line| !line.contains("lie outside the grid"));
+        others.map(|line| format!("{line}\n")).collect()
     }
 }
 
@@ -30,22 +36,26 @@ pub fn folder(test: &str) -> PathBuf {
     folder
 }
 
-/// Runs the program in a folder, with an input on standard input. No test may see a panic.
-pub fn run_in(folder: &PathBuf, args: &[&str], input: &[u8]) -> Done {
-    let mut command = program();
-    command.args(args).current_dir(folder);
+/// Runs a command with an input on standard input.
+fn fed(command: &mut Command, input: &[u8]) -> Output {
     let mut child = command
         .stdin(Stdio::piped())
         .stdout(Stdio::piped())
         .stderr(Stdio::piped())
         .spawn()
-        .expect("program");
+        .expect("a program that starts");
     let mut stdin = child.stdin.take().expect("stdin");
     let input = input.to_vec();
     // The program may stop before it has read everything.
     let writer = std::thread::spawn(move || drop(stdin.write_all(&input)));
     let output = child.wait_with_output().expect("output");
     writer.join().expect("writer");
+    output
+}
+
+/// Runs the program in a folder, with an input on standard input. No test may see a panic.
+pub fn run_in(folder: &PathBuf, args: &[&str], input: &[u8]) -> Done {
+    let output = fed(program().args(args).current_dir(folder), input);
     let err = String::from_utf8(output.stderr).expect("messages in UTF-8");
     assert!(!err.contains("panicked"), "{args:?}: {err}");
     Done {
@@ -57,6 +67,13 @@ pub fn run_in(folder: &PathBuf, args: &[&str], input: &[u8]) -> Done {
 
 pub fn run(args: &[&str], input: &[u8]) -> Done {
     run_in(&PathBuf::from(env!("CARGO_TARGET_TMPDIR")), args, input)
+}
+
+/// What python prints for a script that reads an input: an independent reader of what the program writes. Without python3 the test fails.
+pub fn python(script: &str, input: &[u8]) -> String {
+    let output = fed(Command::new("python3").args(["-c", script]), input);
+    assert!(output.status.success(), "{script}: {}", String::from_utf8_lossy(&output.stderr));
+    String::from_utf8(output.stdout).expect("text")
 }
 
 /// Bytes from hexadecimal digits; blanks do not count.
