@@ -26,7 +26,7 @@ fn made_again() {
         for args in [
             vec!["make", &text, "-o", &plan],
             vec!["run", &plan, "-o", &answer],
-            vec!["plot", &plan, "--answer", &answer, "--plan", &text, "-o", &picture],
+            vec!["plot", &plan, "--answer", &answer, "--text", &text, "-o", &picture],
         ] {
             let done = run_in(&folder, &args, b"");
             assert_eq!((done.status, done.err.as_str()), (0, ""), "{args:?}");
@@ -55,8 +55,78 @@ fn readings_are_those_of_the_csv_files() {
 fn tables_in_the_readme() {
     let readme = String::from_utf8(stored("README.md")).expect("text");
     for name in NAMES {
-        let done = run_in(&examples(), &["show", &format!("{name}.answer"), "--plan", &format!("{name}.txt")], b"");
+        let done = run_in(&examples(), &["show", &format!("{name}.answer"), "--text", &format!("{name}.txt")], b"");
         assert_eq!(done.status, 0);
         assert!(readme.contains(&format!("```\n{}```", done.text())), "{name}: {}", done.text());
     }
+}
+
+fn part_of_the_readme(heading: &str) -> String {
+    let readme = String::from_utf8(stored("../README.md")).expect("text");
+    let (_, part) = readme.split_once(&format!("## {heading}\n")).expect("its part");
+    part.split("\n## ").next().expect("its end").to_string()
+}
+
+/// The blocks of the README's part "Your own CSV" are a plan text, a command and what it shows.
+#[test]
+fn first_steps_of_the_readme() {
+    let readme = String::from_utf8(stored("../README.md")).expect("text");
+    let part = readme
+        .split("## Your own CSV")
+        .nth(1)
+        .expect("its part")
+        .split("\n## ")
+        .next()
+        .expect("its end");
+    let blocks: Vec<&str> = part.split("```\n").skip(1).step_by(2).collect();
+    let [text, shown] = blocks[..] else { panic!("{} blocks", blocks.len()) };
+    let (command, table) = shown.split_once('\n').expect("a command and a table");
+    let folder = folder("first_steps");
+    fs::write(folder.join("belt.txt"), text).expect("file");
+    fs::write(
+        folder.join("monday.csv"),
+        "time,current\n1,31\n2,30\n3,31\n4,42\n5,43\n6,42\n7,41\n8,42\n",
+    )
+    .expect("file");
+    let args: Vec<&str> = command.strip_prefix("$ yeldaski ").expect("a command").split(' ').collect();
+    let done = run_in(&folder, &args, b"");
+    assert_eq!((done.status, done.text().as_str()), (0, table), "{}", done.err);
+    assert!(folder.join("monday.svg").exists());
+}
+
+/// Every table and every line of bytes in the README's worked examples is what the command gives for the text above it.
+#[test]
+fn worked_examples_of_the_readme() {
+    let part = part_of_the_readme("The files behind it");
+    let blocks: Vec<&str> = part.split("```\n").skip(1).step_by(2).collect();
+    let folder = folder("worked_examples");
+    for text in blocks.iter().filter(|block| block.starts_with("grid ")) {
+        fs::write(folder.join("t.txt"), text).expect("file");
+        let done = run_in(&folder, &["find", "t.txt"], b"");
+        assert!(blocks.contains(&done.text().as_str()), "{text}: {}", done.text());
+        let answer = run_in(&folder, &["find", "t.txt", "--format", "answer"], b"").out;
+        let plan = run_in(&folder, &["make", "t.txt"], b"").out;
+        let digits = |bytes: &[u8]| bytes.iter().map(|byte| format!("{byte:02X}")).collect::<String>();
+        // Words follow the bytes in a line after more blanks than stand between them.
+        let bytes_of = |block: &&str| {
+            block
+                .lines()
+                .map(|line| line.split("      ").next().unwrap_or("").replace(' ', ""))
+                .collect::<String>()
+        };
+        assert!(blocks.iter().any(|block| bytes_of(block) == digits(&answer)), "{}", digits(&answer));
+        // Of the second plan file the README names the fields that are new.
+        let named: Vec<String> = part
+            .split('`')
+            .map(|word| word.replace(' ', ""))
+            .filter(|word| word.starts_with("03") || word.starts_with("04"))
+            .collect();
+        let is_whole = blocks.iter().any(|block| bytes_of(block) == digits(&plan));
+        assert!(
+            is_whole || (named.len() == 2 && named.iter().all(|field| digits(&plan).contains(field))),
+            "{}",
+            digits(&plan)
+        );
+    }
+    assert_eq!(blocks.iter().filter(|block| block.starts_with("grid ")).count(), 2);
 }
