@@ -24,6 +24,7 @@ use yeldaski::Refusal;
 struct Task<'a> {
     text: &'a Text,
     text_path: &'a str,
+    /// How the records are read.
     layout: Layout,
     outline: Outline,
     look: Look,
@@ -55,7 +56,10 @@ pub fn act(args: &Args) -> Result<u8, Failure> {
     let task = Task {
         text: &text,
         text_path,
-        layout: records::layout(args, &text)?,
+        layout: match records.is_empty() {
+            true => Layout::default(),
+            false => records::layout(args, &text)?,
+        },
         outline: Outline::of_text(&text),
         look: Look {
             scale: text.units.scale,

@@ -198,6 +198,13 @@ fn two_ways_to_read() {
         assert!(done.err.contains("reads its files in different ways; say --column"), "{}", done.err);
     }
     assert_eq!(run_in(&folder, &["find", "two.txt", "b.csv", "--column", "2"], b"").status, 0);
+    // Its own readings are those of both: the squares add up to 1 + 1, the change costs 50.
+    put(&folder, "a.csv", "31,7\n30,7\n");
+    let table = table(&folder, &["two.txt"], b"");
+    assert!(
+        table.starts_with("cost 52\n") && table.ends_with("  2      3     4  worn      42  2 (new -> worn, up 6)\n"),
+        "{table}"
+    );
 }
 
 /// Readings outside the grid are allowed, but where most are, something else was meant.
