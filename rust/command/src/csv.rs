@@ -55,8 +55,8 @@ pub enum Header {
     Assumed,
 }
 
-const UNDO_COMMENT: &str = "a line that begins with '#' is a comment here, but has the form of a record; \
-                            if it holds names or readings, take the '#' away, else the line";
+const UNDO_COMMENT: &str = "a line that begins with '#' is a comment, but this one may be the names or a reading that is missing below: \
+                            take the '#' away, or the whole line";
 const DECIMAL_COMMA: &str = "if a comma is a decimal sign here, have the record written with decimal points, or with semicolons between its columns";
 const LATE_COMMENT: &str =
     "a line that begins with '#' may be a comment or data; comments stand above the first record, data of that form in quotation marks";
