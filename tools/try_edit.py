@@ -10,12 +10,14 @@ if len(sys.argv) != 3:
     sys.exit(__doc__)
 crate, label = sys.argv[1:]
 edit = open(f'crates/{crate}/must-fail/{label}.edit').read()
-name, old, new = (re.search(rf'^{key}: (.*)$', edit, re.M).group(1) for key in ('file', 'old', 'new'))
+name = re.search(r'^file: (.*)$', edit, re.M).group(1)
 path = f'crates/{crate}/{name}'
-text = open(path).read()
-if text.count(old) != 1:
-    sys.exit(f'{crate}/{label}: its old line occurs {text.count(old)} times')
-open(path, 'w').write(text.replace(old, new))
+text = edited = open(path).read()
+for old, new in re.findall(r'^old: (.*)\nnew: (.*)$', edit, re.M):
+    if edited.count(old) != 1:
+        sys.exit(f'{crate}/{label}: the line {old.strip()} occurs {edited.count(old)} times')
+    edited = edited.replace(old, new)
+open(path, 'w').write(edited)
 try:
     ran = subprocess.run(['rt', 'dev', crate], capture_output=True, text=True)
 finally:

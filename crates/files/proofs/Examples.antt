@@ -8,7 +8,7 @@ use lib.ListN.{getD, set, replicate}
 use lib.IntN.{ℤ, pos}
 use Rattle.integers.specs.Bytes.{signed16, bits16}
 use Rattle.readings.specs.Codec.{readingsOf, bytesOf}
-use Rattle.plan.specs.Counts.{countOk}
+use Rattle.plan.specs.Counts.{countOk, countWithin}
 use Rattle.plan.specs.Build.{openPlan, addEdge, addLabel, sealPlan, planNumber, changeNumber, openNumber, edgesNumber, labelsNumber, entryNumber, labelNumber, edgeStep, edgeOf, hasEdge, anyBelow, firstBelow, noEdge, noLabel}
 use Rattle.plan.specs.declared.Plan.{Plan}
 use Rattle.plan.specs.declared.Answer.the-variants.{Done, Refused}
@@ -43,7 +43,7 @@ plan = record {
 }
 
 example-read : planFile example ≡ record { answer = Done; plan = plan; start = 34; len = 4 }
-unfolding planFile fieldAt checkedField rowOf mayStand lengthFits countFits countOk partOf entriesFrom finishFile entryBody edgeBody labelBody gridNumber openBodies refusedFile signed16 openPlan addEdge addLabel sealPlan planNumber changeNumber openNumber edgesNumber labelsNumber entryNumber labelNumber edgeStep edgeOf hasEdge anyBelow firstBelow
+unfolding planFile fieldAt checkedField rowOf mayStand lengthFits countFits countOk countWithin partOf entriesFrom finishFile entryBody edgeBody labelBody gridNumber openBodies refusedFile signed16 openPlan addEdge addLabel sealPlan planNumber changeNumber openNumber edgesNumber labelsNumber entryNumber labelNumber edgeStep edgeOf hasEdge anyBelow firstBelow
 example-read = refl
 
 example-readings : readingsOf (partOf example 34 4) ≡ pos 3 ∷ (pos 4 ∷ [])
@@ -52,5 +52,5 @@ example-readings = refl
 
 -- written into 40 bytes of value 7: the file in front, the rest as it was
 example-written : (planWritten plan 2 40 ≡ Bytes 38) × (afterWriting plan (pos 3 ∷ (pos 4 ∷ [])) (replicate 40 7) ≡ mathlib.Core.List._++_ example (7 ∷ (7 ∷ [])))
-unfolding outcome written writeNumber planLength planBytes headBytes edgesBytes labelsBytes bytesOf bits16 countOk planNumber openNumber edgesNumber labelsNumber entryNumber labelNumber edgeStep edgeOf hasEdge anyBelow firstBelow
+unfolding outcome written writeNumber planLength planBytes headBytes edgesBytes labelsBytes bytesOf bits16 countOk countWithin planNumber openNumber edgesNumber labelsNumber entryNumber labelNumber edgeStep edgeOf hasEdge anyBelow firstBelow
 example-written = (refl, refl)

@@ -15,6 +15,9 @@ use Rattle.search.specs.declared.Found.{Found}
 use Rattle.search.specs.declared.Found.the-variants.{Segmentation}
 use Rattle.search.specs.declared.Cost.{Cost}
 use Rattle.search.specs.Search.{searchResult, pointResult, foundOf, costOf, runsAfter, wordsAfter}
+use Rattle.model.specs.Window.{Costs, costList, noCosts}
+use Rattle.windows.specs.declared.Filled.{Filled}
+use Rattle.windows.specs.Windows.{windowResult, filledOf, costsAfter, windowWords}
 use Rattle.readings.specs.Codec.{decodeNumber, decoded}
 use Rattle.fields.specs.Fields.{partOf}
 use Rattle.fields.specs.declared.Written.{Written}
@@ -22,8 +25,8 @@ use Rattle.files.specs.declared.FileRead.{FileRead}
 use Rattle.files.specs.Reader.{planFile, readingsPart}
 use Rattle.files.specs.Writer.{planWritten, afterWriting}
 use Rattle.finder.specs.declared.Outcome.{Outcome}
-use Rattle.finder.specs.Finder.{given, refusedWith, searchOutcome, pointOutcome, writtenOutcome, onPlan, searchFile, pointFile, fileWords, readingsNumber, readOutcome, fileReadings, rewritten, afterRewriting}
-use Rattle.finder.specs.Parts.{foundOutcome, costOutcome, runsIn, foundWritten, afterFound}
+use Rattle.finder.specs.Finder.{given, refusedWith, searchOutcome, pointOutcome, writtenOutcome, windowOutcome, onPlan, searchFile, pointFile, fileWords, windowFile, windowFileWords, readingsNumber, readOutcome, fileReadings, rewritten, afterRewriting}
+use Rattle.finder.specs.Parts.{foundOutcome, costOutcome, filledOutcome, runsIn, foundWritten, afterFound}
 
 found-outcome : (r : Result) → foundOutcome (foundOf r) ≡ searchOutcome r
 found-outcome (found c ns) = refl
@@ -32,6 +35,10 @@ found-outcome (refused n) = refl
 cost-outcome : (r : Result) → costOutcome (costOf r) ≡ pointOutcome r
 cost-outcome (found c ns) = refl
 cost-outcome (refused n) = refl
+
+filled-outcome : (r : Costs) → filledOutcome (filledOf r) ≡ windowOutcome r
+filled-outcome (costList cs) = refl
+filled-outcome (noCosts n) = refl
 
 module _ (s : List ℕ) (r : FileRead) (e : r ≡ planFile s) where
   -- the file has no plan
@@ -47,6 +54,11 @@ module _ (s : List ℕ) (r : FileRead) (e : r ≡ planFile s) where
     pub point-none : (zs : List ℤ) (st : ℕ) (m : ℤ) (ws : List ℕ) → (refusedWith n ≡ pointOutcome (pointFile s zs st m (length ws))) × (ws ≡ fileWords s (pointFile s zs st m (length ws)) ws)
     unfolding pointFile fileWords
     point-none zs st m ws = let q : refused n ≡ pointFile s zs st m (length ws) = none _ refused in (ap pointOutcome q, none _ (λ k. ws))
+
+    pub window-none : (zs : List ℤ) (w : ℕ) (ws out : List ℕ)
+        → (refusedWith n ≡ windowOutcome (windowFile s zs w (length ws) (length out))) × ((out ≡ costsAfter (windowFile s zs w (length ws) (length out)) out) × (ws ≡ windowFileWords s (windowFile s zs w (length ws) (length out)) ws))
+    unfolding windowFile windowFileWords
+    window-none zs w ws out = let q : noCosts n ≡ windowFile s zs w (length ws) (length out) = none _ noCosts in (ap windowOutcome q, (ap (λ (x : Costs). costsAfter x out) q, none _ (λ k. ws)))
 
     pub read-none : (out : List ℤ) → (refusedWith n ≡ readOutcome s (length out)) × (out ≡ fileReadings s out)
     unfolding readOutcome fileReadings
@@ -82,6 +94,19 @@ module _ (s : List ℕ) (r : FileRead) (e : r ≡ planFile s) where
         let q : pointResult (r .plan) zs st m′ (length ws) ≡ pointFile s zs st m (length ws) = ap (λ (x : ℤ). pointResult (r .plan) zs st x (length ws)) w ∙ ap (λ (x : FileRead). pointResult (x .plan) zs st m (length ws)) e ∙ some _ refused in (
           k ∙ ap costOutcome a ∙ cost-outcome (pointResult (r .plan) zs st m′ (length ws)) ∙ ap pointOutcome q,
           c ∙ ap (λ (x : Result). wordsAfter (r .plan) x ws) q ∙ ap (λ (x : FileRead). wordsAfter (x .plan) (pointFile s zs st m (length ws)) ws) e ∙ some _ (λ k. ws),
+        )
+
+    pub window-some : (zs : List ℤ) (w : ℕ) (ws ws′ out out′ : List ℕ) (f : Filled) (o : Outcome) → o ≡ filledOutcome f
+        → (f ≡ filledOf (windowResult (r .plan) zs w (length ws) (length out))) × ((out′ ≡ costsAfter (windowResult (r .plan) zs w (length ws) (length out)) out) × (ws′ ≡ windowWords (r .plan) (windowResult (r .plan) zs w (length ws) (length out)) ws))
+        → (o ≡ windowOutcome (windowFile s zs w (length ws) (length out))) × ((out′ ≡ costsAfter (windowFile s zs w (length ws) (length out)) out) × (ws′ ≡ windowFileWords s (windowFile s zs w (length ws) (length out)) ws))
+    unfolding windowFile windowFileWords
+    window-some zs w ws ws′ out out′ f o k (a, (b, c)) =
+        let q : windowResult (r .plan) zs w (length ws) (length out) ≡ windowFile s zs w (length ws) (length out) = ap (λ (x : FileRead). windowResult (x .plan) zs w (length ws) (length out)) e ∙ some _ noCosts in (
+          k ∙ ap filledOutcome a ∙ filled-outcome (windowResult (r .plan) zs w (length ws) (length out)) ∙ ap windowOutcome q,
+          (
+            b ∙ ap (λ (x : Costs). costsAfter x out) q,
+            c ∙ ap (λ (x : Costs). windowWords (r .plan) x ws) q ∙ ap (λ (x : FileRead). windowWords (x .plan) (windowFile s zs w (length ws) (length out)) ws) e ∙ some _ (λ k. ws),
+          ),
         )
 
     pub write-some : (zs : List ℤ) (out out′ : List ℕ) (w : Written) (o : Outcome) → o ≡ writtenOutcome w

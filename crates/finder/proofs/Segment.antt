@@ -16,7 +16,7 @@ use Rattle.plan.specs.declared.Answer.{Answer}
 use Rattle.plan.specs.declared.Answer.the-variants.{Done, Refused}
 use Rattle.model.specs.Result.{Result, found, refused}
 use Rattle.search.specs.declared.Found.{Found}
-use Rattle.search.specs.Search.{searchResult, foundOf, runsAfter, wordsAfter, looked}
+use Rattle.search.specs.Search.{searchResult, foundOf, runsAfter, wordsLeft, wordsAfter, looked}
 use Rattle.readings.specs.Codec.{readingsOf, decodeNumber, decoded}
 use Rattle.plan.specs.Counts.{countOk}
 use Rattle.readings.specs.Trips.{readings-length}
@@ -25,7 +25,7 @@ use Rattle.fields.specs.Put.{outcome, written}
 use Rattle.fields.specs.declared.Written.{Written}
 use Rattle.files.specs.declared.FileRead.{FileRead}
 use Rattle.files.specs.Reader.{planFile, readingsPart}
-use Rattle.answers.specs.Runs.{isRefusal}
+use Rattle.answers.specs.Runs.{lastRefusal, isRefusal}
 use Rattle.answers.specs.Lengths.{answer-length}
 use Rattle.answers.specs.Writer.{answerBytes, refusalBytes, answerLength, answerNumber, refusalNumber, answerWritten, afterAnswer, refusalWritten, afterRefusal}
 use Rattle.finder.specs.declared.Outcome.{Outcome}
@@ -145,12 +145,12 @@ module _ (s : List ℕ) (r : FileRead) (e : r ≡ planFile s) (zs : List ℤ) (w
   module _ (h : r .answer ≡ Done) (b : List ℕ) (p : b ≡ partOf s (r .start) (r .len)) (zs′ : List ℤ) (n : ℕ) (d : (n ≡ decodeNumber (length b) (length zs)) × (zs′ ≡ decoded b zs)) where
     -- the readings do not fit
     pub segment-wrong : (n ≡ 0 → ⊥) → (o : Outcome) (out′ : List ℕ) → (o ≡ writtenOutcome (refusalWritten n (length out))) × (out′ ≡ afterRefusal n out) → Segmented o out′ zs′ runs ws
-    unfolding fileResult fileWords wordsAfter isRefusal
+    unfolding fileResult fileWords wordsAfter wordsLeft isRefusal
     segment-wrong k o out′ l =
         let i = number-is s r e h b p zs zs′ n d in
         let low : n ≤ 15 = omega (arith, d .0, decode-small (length b) (length zs)) in
         let q : refused n ≡ whole = rw (← i, ne-eqb n 0 k) (some s r e h (refused n) refused) in
-        let w : isRefusal n ≡ true = rw (ne-eqb n 0 k, le-leb n 17 (omega (arith, low))) in
+        let w : isRefusal n ≡ true = rw (ne-eqb n 0 k, le-leb n lastRefusal (omega (arith, low))) in
         let x : ws ≡ wordsAfter (planFile s .plan) (refused n) ws = rw (ne-eqb n 16 (λ z. omega (arith, z, low))) in
         let y = refused-bytes n q w o out′ l in
         (y .0, (y .1, (list-is s r e h b p zs zs′ n d, (ap (λ (x : Result). runsAfter x runs) q, x ∙ ap (λ (x : Result). wordsAfter (planFile s .plan) x ws) q ∙ some s r e h _ (λ i. ws)))))

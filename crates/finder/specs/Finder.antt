@@ -9,7 +9,9 @@ use Rattle.integers.specs.Pick.{pick}
 use Rattle.plan.specs.declared.Answer.{Answer}
 use Rattle.plan.specs.declared.Answer.the-variants.{Done, Refused}
 use Rattle.model.specs.Result.{Result, found, refused}
+use Rattle.model.specs.Window.{Costs, costList, noCosts}
 use Rattle.search.specs.Search.{searchResult, pointResult, wordsAfter}
+use Rattle.windows.specs.Windows.{windowResult, windowWords}
 use Rattle.readings.specs.Codec.{readingsOf, decodeNumber, decoded}
 use Rattle.fields.specs.Put.{outcome, written, writtenNumber, writtenBytes}
 use Rattle.fields.specs.declared.Written.{Written}
@@ -37,6 +39,10 @@ searchOutcome (refused n) = refusedWith n
 abbrev pub pointOutcome : Result → Outcome
 pointOutcome (found c ns) = given 0 c 0
 pointOutcome (refused n) = refusedWith n
+
+abbrev pub windowOutcome : Costs → Outcome
+windowOutcome (costList cs) = given 0 0 (length cs)
+windowOutcome (noCosts n) = refusedWith n
 
 abbrev pub writtenOutcome : Written → Outcome
 writtenOutcome w = given (writtenNumber w) 0 (writtenBytes w)
@@ -76,6 +82,13 @@ pointFile s zs st m words = onPlan (planFile s .answer) (pointResult (planFile s
 -- the workspace after a call on the plan of a file that gave r
 unfoldable pub fileWords : List ℕ → Result → List ℕ → List ℕ
 fileWords s r ws = onPlan (planFile s .answer) (wordsAfter (planFile s .plan) r ws) (λ n. ws)
+
+-- the costs of a moving window, and the workspace after it
+unfoldable pub windowFile : List ℕ → List ℤ → ℕ → ℕ → ℕ → Costs
+windowFile s zs w words room = onPlan (planFile s .answer) (windowResult (planFile s .plan) zs w words room) noCosts
+
+unfoldable pub windowFileWords : List ℕ → Costs → List ℕ → List ℕ
+windowFileWords s r ws = onPlan (planFile s .answer) (windowWords (planFile s .plan) r ws) (λ n. ws)
 
 -- ---- the readings of a file
 

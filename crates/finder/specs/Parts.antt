@@ -5,6 +5,8 @@ use lib.IntN.{ℤ}
 use lib.ListN.{take}
 use Rattle.search.specs.declared.Found.{Found}
 use Rattle.search.specs.declared.Found.the-variants.{Segmentation, Refused}
+use Rattle.windows.specs.declared.Filled.{Filled}
+use Rattle.windows.specs.declared.Filled.the-variants as W
 use Rattle.search.specs.declared.Cost.{Cost}
 use Rattle.search.specs.declared.Cost.the-variants.{Least, Refusal}
 use Rattle.fields.specs.declared.Written.{Written}
@@ -19,6 +21,10 @@ foundOutcome (Refused n) = refusedWith n
 abbrev pub costOutcome : Cost → Outcome
 costOutcome (Least c) = given 0 c 0
 costOutcome (Refusal n) = refusedWith n
+
+abbrev pub filledOutcome : Filled → Outcome
+filledOutcome (W.Starts k) = given 0 0 k
+filledOutcome (W.Refused n) = refusedWith n
 
 -- how many run numbers an answer has in its list
 abbrev pub runsIn : Found → ℕ

@@ -5,17 +5,19 @@ use plan::Answer;
 use plan::Plan;
 use search::Cost;
 use search::Found;
+use windows::Filled;
 ghost use mathlib.Core.Path.{_≡_};
 ghost use Prim.Native.Nat.{ℕ, _*_, _≤_, _<_};
 ghost use lib.Signed.{mag};
 ghost use lib.ListN.{length, take};
 ghost use Rattle.search.specs.Search.{runsAfter};
+ghost use Rattle.windows.specs.Windows.{costsAfter};
 ghost use Rattle.answers.specs.Reader.{readAnswer, filled};
 ghost use Rattle.answers.specs.Writer.{answerWritten, afterAnswer, refusalWritten, afterRefusal};
-ghost use Rattle.finder.specs.Finder.{given, refusedWith, writtenOutcome, replyOf, searchOutcome, pointOutcome, searchFile, pointFile, fileWords, readOutcome, fileReadings, rewritten, afterRewriting, fileResult, segmentOutcome, afterSegment, programBytes, atFront};
-ghost use Rattle.finder.specs.Parts.{foundOutcome, costOutcome, runsIn, foundWritten, afterFound};
+ghost use Rattle.finder.specs.Finder.{given, refusedWith, writtenOutcome, replyOf, searchOutcome, pointOutcome, searchFile, pointFile, fileWords, windowOutcome, windowFile, windowFileWords, readOutcome, fileReadings, rewritten, afterRewriting, fileResult, segmentOutcome, afterSegment, programBytes, atFront};
+ghost use Rattle.finder.specs.Parts.{foundOutcome, costOutcome, filledOutcome, runsIn, foundWritten, afterFound};
 
-// What a call gives: its refusal, 0 where there is none; a cost; and how many runs, readings or bytes it wrote.
+// What a call gives: its refusal, 0 where there is none; a cost; and how many runs, costs, readings or bytes it wrote.
 #[repr(C)]
 pub struct Outcome {
     pub refusal: u8,
@@ -87,6 +89,15 @@ fn least(c: Cost) -> Outcome
     }
 }
 
+fn window(f: Filled) -> Outcome
+    ensures { λ r. ⌜ r ≡ filledOutcome f ⌝ }
+{
+    match f {
+        Filled::Starts(n) => counted(n),
+        Filled::Refused(n) => refused(n),
+    }
+}
+
 // The search of a plan over readings. The readings in the plan file itself are not looked at.
 #[no_mangle]
 pub extern "C" fn yeldaski_search(
@@ -127,6 +138,28 @@ pub extern "C" fn yeldaski_point(
     };
     let plan = read.plan;
     least(search::point(plan, readings, state, level, workspace))
+}
+
+// The least cost of each part of w readings of a long record, in the order of the start.
+#[no_mangle]
+pub extern "C" fn yeldaski_windows(
+    file: &[u8],
+    record: &[i16],
+    w: usize,
+    workspace: &mut [u64],
+    costs: &mut [u64],
+) -> Outcome
+    ensures answer { λ r. ⌜ r ≡ windowOutcome (windowFile (now (file .entry)) (now («record» .entry)) w (length (now (workspace .entry))) (length (now (costs .entry)))) ⌝ }
+    ensures list { λ r. ⌜ now (costs .exit) ≡ costsAfter (windowFile (now (file .entry)) (now («record» .entry)) w (length (now (workspace .entry))) (length (now (costs .entry)))) (now (costs .entry)) ⌝ }
+    ensures words { λ r. ⌜ now (workspace .exit) ≡ windowFileWords (now (file .entry)) (windowFile (now (file .entry)) (now («record» .entry)) w (length (now (workspace .entry))) (length (now (costs .entry)))) (now (workspace .entry)) ⌝ }
+{
+    let read = files::read_plan(file);
+    let answer = read.answer;
+    let Answer::Done = answer else {
+        return refused(files::answer_number(answer));
+    };
+    let plan = read.plan;
+    window(windows::least_costs(plan, record, w, workspace, costs))
 }
 
 // The readings of a plan file, decoded to the front of a list.

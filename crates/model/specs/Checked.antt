@@ -1,5 +1,5 @@
--- What the plan check (`planNumber P ≡ 0`), and a search or a point that no earlier number refuses, ensure: the proofs of the model rest on
--- these facts alone, and none is assumed. Assumes nothing.
+-- What the plan check (`planNumber P ≡ 0`), and a search, a point or a moving window that no earlier number refuses, ensure: the proofs of
+-- the model rest on these facts alone, and none is assumed. Assumes nothing.
 use mathlib.Core.Path.{_≡_, refl, sym, _∙_, ap}
 use mathlib.Core.Bool.{Bool, true, false}
 use mathlib.Core.Logic.{_⊎_, inl, inr}
@@ -26,8 +26,8 @@ use Rattle.plan.specs.Build.{pick, anyBelow, firstBelow, kindNumber, gapOf, kin
 use Rattle.model.specs.Model.{edgeAt, labelAt, above, width, inSet, onGrid}
 use Rattle.model.specs.Bools.{clash}
 use Rattle.model.specs.Grid.{above-add}
-use Rattle.plan.specs.Counts.{countOk, count-is}
-unfoldable pub use Rattle.model.specs.Refusals.{late, searchNumber, pointNumber}
+use Rattle.plan.specs.Counts.{countWithin, countOk, longOk, count-is, long-is}
+unfoldable pub use Rattle.model.specs.Refusals.{late, searchNumber, pointNumber, windowOk, windowNumber}
 
 pub record GoodEdge (P : Plan) (e : ℕ) : Type 0 where
   pub from-below : edgeAt P e .from < P .states
@@ -286,7 +286,7 @@ module _ (P : Plan) (h : planNumber P ≡ 0) where
         small = λ i k. label-good (P .labels) i (labelAt P i) (label i k) .4;
       }
 
--- ---- a search or a point that no number refuses
+-- ---- a search, a point or a moving window that no number refuses
 
 pub record Accepted (P : Plan) (n : ℕ) : Type 0 where
   pub plan : Checked P
@@ -302,6 +302,12 @@ pub record AcceptedPoint (P : Plan) (n s : ℕ) (m : ℤ) : Type 0 where
   pub few-readings : n ≤ 4096
   pub state : s < P .states
   pub level : onGrid P m ≡ true
+
+pub record AcceptedWindow (P : Plan) (n w : ℕ) : Type 0 where
+  pub plan : Checked P
+  pub few-readings : n ≤ 65535
+  pub inside : w ≤ n
+  pub part : searchNumber P w ≡ 0
 
 pub built-search : (P : Plan) (n : ℕ) → searchNumber P n ≡ 0 → planNumber P ≡ 0
 unfolding searchNumber
@@ -338,12 +344,35 @@ accepted-point P n s m h =
     let k = count-is n c in
     record { plan = checked P a; sealed = b; some-readings = omega (arith, k .0); few-readings = k .1; state = ltb-true s (P .states) d; level = e }
 
--- ---- the numbers of a refusal before a search looks
+-- no label is late where there is none
+not-late : (P : Plan) (n : ℕ) → P .labelcount ≡ 0 → late P n ≡ false
+unfolding late anyBelow
+not-late P n e = rw e refl
 
--- These numbers, and 0. A refusal that a ticket adds to a plan, to a search or to a cost at a point joins the list; all else follows by computing.
--- 16 is none of them: it says that the search has looked.
+pub accepted-window : (P : Plan) (n w : ℕ) → windowNumber P n w ≡ 0 → AcceptedWindow P n w
+unfolding windowNumber windowOk searchNumber countOk countWithin
+accepted-window P n w h =
+    let (a, r) = or-zero (planNumber P) _ h in
+    let (b, r₁) = zero-else (P .sealed) _ 11 (λ e. omega arith) r in
+    let (c, r₂) = zero-else (longOk n) _ 9 (λ e. omega arith) r₁ in
+    let (d, r₃) = zero-else (eqb (P .labelcount) 0) _ 18 (λ e. omega arith) r₂ in
+    let (e, r₄) = zero-else (windowOk n w) 0 19 (λ e. omega arith) r₃ in
+    let (z, e₁) = yes-if (eqb w 0) (pick (leb w 1024) (leb w n) false) e in
+    let (e₂, e₃) = yes-both (leb w 1024) (leb w n) e₁ in
+    let k : w ≤ 1024 = leb-true w 1024 e₂ in
+    record {
+      plan = checked P a;
+      few-readings = long-is n c .1;
+      inside = leb-true w n e₃;
+      part = rw (a, not-late P w (eqb-true (P .labelcount) 0 d), b, z, le-leb w 4096 (omega arith)) refl;
+    }
+
+-- ---- the numbers of a refusal before a call looks
+
+-- These numbers, and 0. A refusal that a ticket adds to a plan or to a call that searches joins the list; all else follows by computing. 16 is none of
+-- them: it says that the call has looked.
 abbrev earlyNumbers : List ℕ
-earlyNumbers = 0 ∷ 4 ∷ 5 ∷ 6 ∷ 7 ∷ 8 ∷ 9 ∷ 10 ∷ 11 ∷ 12 ∷ 13 ∷ []
+earlyNumbers = 0 ∷ 4 ∷ 5 ∷ 6 ∷ 7 ∷ 8 ∷ 9 ∷ 10 ∷ 11 ∷ 12 ∷ 13 ∷ 18 ∷ 19 ∷ []
 
 abbrev isIn : ℕ → List ℕ → Bool
 isIn n [] = false
@@ -429,3 +458,13 @@ search-not-16 P n = early-not-16 (searchNumber P n) (search-is-early P n)
 
 pub point-not-16 : (P : Plan) (n s : ℕ) (m : ℤ) → pointNumber P n s m ≡ 16 → ⊥
 point-not-16 P n s m = early-not-16 (pointNumber P n s m) (point-is-early P n s m)
+
+window-is-early : (P : Plan) (n w : ℕ) → isEarly (windowNumber P n w) ≡ true
+unfolding windowNumber
+window-is-early P n w =
+    pick-early (eqb (planNumber P) 0) _ (planNumber P)
+    (pick-early (P .sealed) _ 11 (pick-early (longOk n) _ 9 (pick-early (eqb (P .labelcount) 0) _ 18 (pick-early (windowOk n w) 0 19 refl refl) refl) refl) refl)
+    (plan-is-early P)
+
+pub window-not-16 : (P : Plan) (n w : ℕ) → windowNumber P n w ≡ 16 → ⊥
+window-not-16 P n w = early-not-16 (windowNumber P n w) (window-is-early P n w)

@@ -23,6 +23,10 @@ use Rattle.model.specs.Checked.{built-search, built-point, search-not-16
 use Rattle.model.specs.Order.{first-one}
 use Rattle.model.specs.Complete.{listed-first, listed-none, listed-least, listed-point-none}
 
+-- no segmentation of n readings is allowed
+abbrev pub NoneAllowed : Plan → ℕ → Type 0
+NoneAllowed P n = (g : Seg) → AllowedWhole P n g → ⊥
+
 pub record Demand3 (P : Plan) (zs : List ℤ) : Type 0 where
   -- "The cost and the whole list of runs that a search gives, where it is not refused, equal those of the segmentation that comes first in the
   -- order among the cheapest allowed ones."
@@ -32,8 +36,8 @@ pub record Demand3 (P : Plan) (zs : List ℤ) : Type 0 where
   -- at the named level."
   pub point-found : (s : ℕ) (m : ℤ) (c : ℕ) (ns : List ℤ) → resultOf P zs (point s m) ≡ found c ns → LeastCost P zs (length zs) s m c × (ns ≡ [])
   -- "Each of the two calls gives 16 exactly when no earlier refusal applies and no such segmentation exists."
-  pub whole-16 : resultOf P zs whole ≡ refused 16 → (searchNumber P (length zs) ≡ 0) × ((g : Seg) → AllowedWhole P (length zs) g → ⊥)
-  pub 16-whole : searchNumber P (length zs) ≡ 0 → ((g : Seg) → AllowedWhole P (length zs) g → ⊥) → resultOf P zs whole ≡ refused 16
+  pub whole-16 : resultOf P zs whole ≡ refused 16 → (searchNumber P (length zs) ≡ 0) × NoneAllowed P (length zs)
+  pub 16-whole : searchNumber P (length zs) ≡ 0 → NoneAllowed P (length zs) → resultOf P zs whole ≡ refused 16
   pub point-16 : (s : ℕ) (m : ℤ) → resultOf P zs (point s m) ≡ refused 16
       → (pointNumber P (length zs) s m ≡ 0) × ((g : Seg) → Allowed P (length zs) g → lastState P g ≡ s → lastLevel g ≡ m → ⊥)
   pub 16-point : (s : ℕ) (m : ℤ) → pointNumber P (length zs) s m ≡ 0 → ((g : Seg) → Allowed P (length zs) g → lastState P g ≡ s → lastLevel g ≡ m → ⊥)
@@ -113,7 +117,7 @@ module _ (P : Plan) (zs : List ℤ) where
 
   -- the whole record, once no number refuses
   module _ (h : searchNumber P n₀ ≡ 0) where
-    is-none : ((g : Seg) → AllowedWhole P n₀ g → ⊥) → (o : Option Seg) → listed P zs ≡ o → foundSeg P (priced P zs o) ≡ refused 16
+    is-none : NoneAllowed P n₀ → (o : Option Seg) → listed P zs ≡ o → foundSeg P (priced P zs o) ≡ refused 16
     is-none never none e = refl
     is-none never (some g) e = absurd (never g (listed-first P zs (built-search P n₀ h) g e .allowed))
 

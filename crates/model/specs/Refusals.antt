@@ -1,12 +1,12 @@
--- The refusals of a search and of a cost at a point that come before they look at what they are lent: 0 where none applies. The quoted words
--- are those of the scope paper (01), "Refused because of the state". Assumes nothing.
-use mathlib.Core.Bool.{Bool}
+-- The refusals of a search, of a cost at a point and of a moving window that come before they look at what they are lent: 0 where none applies. The
+-- quoted words are those of the scope paper (01), "Refused because of the state", and of ticket 1 of the change requests (02). Assumes nothing.
+use mathlib.Core.Bool.{Bool, false}
 use Prim.Native.Nat.{ℕ}
-use lib.Dec.{ltb}
+use lib.Dec.{eqb, leb, ltb}
 use lib.IntN.{ℤ}
 use Rattle.plan.specs.declared.Plan.{Plan}
 use Rattle.plan.specs.Build.{pick, anyBelow, orElse, planNumber}
-use Rattle.plan.specs.Counts.{countOk}
+use Rattle.plan.specs.Counts.{countOk, longOk}
 use Rattle.model.specs.Model.{labelAt, onGrid}
 
 -- "13 a label's q above n"
@@ -21,3 +21,11 @@ searchNumber P n = orElse (planNumber P) (pick (P .sealed) (pick (countOk n) (pi
 -- "Cost at a point: 11, 9, state 5, level 4, 14, 16."
 unfoldable pub pointNumber : Plan → ℕ → ℕ → ℤ → ℕ
 pointNumber P n s m = orElse (planNumber P) (pick (P .sealed) (pick (countOk n) (pick (ltb s (P .states)) (pick (onGrid P m) 0 4) 5) 9) 11)
+
+-- "19 a w of 0, above 1,024 or above the record"
+unfoldable pub windowOk : ℕ → ℕ → Bool
+windowOk n w = pick (eqb w 0) false (pick (leb w 1024) (leb w n) false)
+
+-- "Here 9 is no readings or more than 65,535. Refusal 18 is a plan with labels and 19 a w of 0, above 1,024 or above the record, checked in this order after 11 and 9 and before 14, 15 .. and 16."
+unfoldable pub windowNumber : Plan → ℕ → ℕ → ℕ
+windowNumber P n w = orElse (planNumber P) (pick (P .sealed) (pick (longOk n) (pick (eqb (P .labelcount) 0) (pick (windowOk n w) 0 19) 18) 9) 11)

@@ -160,7 +160,7 @@ fn free_slots(words: usize, free: usize, slots: usize) -> usize
     if fit < slots { fit } else { slots }
 }
 
-// How far to go before the next layer is saved.
+// How far to go before the next layer is saved, where at most so many slots are used: to t once they are. The slots are a matter of speed alone.
 fn next_stop(
     ws: &[u64],
     plan: Plan,
@@ -169,16 +169,21 @@ fn next_stop(
     walk: Walk,
     table: &[usize],
     t: usize,
+    slots: usize,
 ) -> usize
     requires { ⌜ Stops plan g walk t (now table) (now ws) ⌝ }
     requires { ⌜ Coded plan (now code) ⌝ }
+    requires { ⌜ slots ≤ 96 ⌝ }
     ensures { λ r. ⌜ (walk .time < r) × (r ≤ t) ⌝ }
 {
     let n = walk.count;
+    if slots <= n {
+        return t;
+    }
     let free = ALL_WORDS * area(g) - table[SLOTS + n];
     let lists = lists_at(plan, code, g, walk.time);
     let words = words_of(ws, walk.cur, lists, g.levels);
-    let c = free_slots(words, free, SLOTS - n);
+    let c = free_slots(words, free, slots - n);
     next_save(walk.time, t, c)
 }
 
@@ -322,7 +327,7 @@ fn go_on(
     }
 }
 
-// Forward to t, with layers saved on the way.
+// Forward to t, with layers saved on the way in at most so many slots: SLOTS where the walk goes back, 0 where it does not.
 pub fn advance(
     ws: &mut [u64],
     plan: Plan,
@@ -332,14 +337,16 @@ pub fn advance(
     walk: Walk,
     table: &mut [usize],
     t: usize,
+    slots: usize,
 ) -> Walk
     requires { ⌜ Goes plan (now readings) g walk t (now ws) × Stack plan (now readings) (walk .count) (now table) (now ws) ⌝ }
     requires { ⌜ Coded plan (now code) ⌝ }
+    requires { ⌜ slots ≤ 96 ⌝ }
     ensures { λ r. ⌜ Walked plan (now (readings .entry)) t (now (table .exit)) (now (ws .entry)) (now (ws .exit)) r ⌝ }
 {
     let mut w = walk;
     while w.time < t {
-        let x = next_stop(ws, plan, code, g, w, table, t);
+        let x = next_stop(ws, plan, code, g, w, table, t, slots);
         w = go_on(ws, plan, code, readings, g, w, table, x, t);
     }
     w
@@ -400,5 +407,5 @@ pub fn rewind(
         table,
         kept,
     );
-    advance(ws, plan, code, readings, g, w, table, t)
+    advance(ws, plan, code, readings, g, w, table, t, SLOTS)
 }

@@ -1,7 +1,7 @@
 -- The answers, case by case. Assumes nothing.
 use mathlib.Core.Path.{_≡_, refl, sym, _∙_, ap}
 use mathlib.Core.List.{List, _++_}
-use mathlib.Core.Bool.{true}
+use mathlib.Core.Bool.{Bool, true, false}
 use Prim.Native.Nat.{ℕ, _+_, _*_, _≤_, _<_}
 use native.Mathlib.Omega.{arith}
 use lib.IntN.{ℤ}
@@ -16,20 +16,28 @@ use Rattle.saved.specs.Packed.{Inside}
 use Rattle.saved.specs.Walk.{limit}
 use Rattle.search.specs.declared.Found.{Found}
 use Rattle.search.specs.declared.Found.the-variants.{Refused}
-use Rattle.search.specs.Search.{workWords, searchResult, foundOf, runsAfter, wordsAfter, looked}
+use Rattle.search.specs.Search.{workWords, searchResult, foundOf, runsAfter, wordsLeft, wordsAfter, looked}
 use Rattle.search.specs.Right.{search-early, search-short, search-narrow, search-looks}
 use Rattle.search.specs.Solve.{Solved}
 use Rattle.search.proofs.Zeros.{same-drop}
 
--- a refusal before the search looks leaves all that is lent
+-- a refusal before a call looks leaves the words as they were
+pub left-untouched : (P : Plan) (l : Bool) (ws : List ℕ) → l ≡ false → ws ≡ wordsLeft P l ws
+unfolding wordsLeft
+left-untouched P l ws h = rw h refl
+
+-- what is cleared once it has looked
+pub left-cleared : (P : Plan) (l : Bool) (ws ws′ : List ℕ) → l ≡ true → Inside 0 (limit P) ws ws′ → replicate (workWords P) 0 ++ drop (workWords P) ws′ ≡ wordsLeft P l ws
+unfolding wordsLeft workWords
+left-cleared P l ws ws′ h i = rw h (ap (λ (x : List ℕ). replicate (limit P) 0 ++ x) (same-drop (limit P) ws ws′ (i .size) (λ k q. i .word k (inr q))))
+
 pub untouched : (P : Plan) (r : Result) (n : ℕ) (ws : List ℕ) → r ≡ refused n → (n ≡ 16 → ⊥) → ws ≡ wordsAfter P r ws
 unfolding wordsAfter
-untouched P r n ws e h = rw (e, ne-eqb n 16 h) refl
+untouched P r n ws e h = left-untouched P (looked r) ws (ap looked e ∙ ne-eqb n 16 h)
 
--- what is cleared
 pub cleared-is : (P : Plan) (r : Result) (ws ws′ : List ℕ) → looked r ≡ true → Inside 0 (limit P) ws ws′ → replicate (workWords P) 0 ++ drop (workWords P) ws′ ≡ wordsAfter P r ws
-unfolding wordsAfter workWords
-cleared-is P r ws ws′ h i = rw h (ap (λ (x : List ℕ). replicate (limit P) 0 ++ x) (same-drop (limit P) ws ws′ (i .size) (λ k q. i .word k (inr q))))
+unfolding wordsAfter
+cleared-is P r ws ws′ h i = left-cleared P (looked r) ws ws′ h i
 
 -- ---- the contract of a search, at each of its ends
 

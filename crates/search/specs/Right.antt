@@ -1,4 +1,4 @@
--- What the two calls answer: the third condition of acceptance of the scope paper (01), whose sentences are quoted, as one claim with one proof
+-- What a search and a cost at a point answer: the third condition of acceptance of the scope paper (01), whose sentences are quoted, as one claim with one proof
 -- (`Right`, `right`). The results are those of the calls' promises, so that what is lent counts by its length alone, whatever it held before.
 -- Allowed, cost and order are those of `Model`. Assumes nothing.
 use mathlib.Core.Path.{_≡_, refl, sym, _∙_, ap}
@@ -14,13 +14,13 @@ use lib.Seq.{length-take-le, take-at}
 use borrow.Author.Tests.{eq-eqb, ne-eqb, eqb-true, lt-ltb, le-ltb, ltb-false}
 use Rattle.plan.specs.declared.Plan.{Plan}
 use Rattle.model.specs.Segmentation.{Seg, readings, lastLevel}
-use Rattle.model.specs.Model.{cost, lastState, Allowed, AllowedWhole, LeastCost, First}
+use Rattle.model.specs.Model.{cost, lastState, Allowed, LeastCost, First}
 use Rattle.model.specs.Run.{runs, runNumbers}
 use Rattle.model.specs.RunLaws.{numbers-length}
 use Rattle.model.specs.Refusals.{searchNumber, pointNumber}
 use Rattle.model.specs.Checked.{search-not-16, point-not-16}
 use Rattle.model.specs.Result.{Result, found, refused, whole, point, resultOf}
-use Rattle.model.specs.Demand3.{demand3, cost-take}
+use Rattle.model.specs.Demand3.{NoneAllowed, demand3, cost-take}
 use Rattle.search.specs.Search.{workWords, searchResult, pointResult, foundOf, costOf, foundResult, costResult, runsAfter, looked}
 
 -- ---- demand 3
@@ -33,9 +33,6 @@ abbrev pub PointAccepts : Plan → ℕ → ℕ → ℤ → ℕ → Type 0
 PointAccepts P n s m words = (pointNumber P n s m ≡ 0) × (workWords P ≤ words)
 
 -- no such segmentation exists
-abbrev pub NoneAllowed : Plan → ℕ → Type 0
-NoneAllowed P n = (g : Seg) → AllowedWhole P n g → ⊥
-
 abbrev pub NoneEnds : Plan → ℕ → ℕ → ℤ → Type 0
 NoneEnds P n s m = (g : Seg) → Allowed P n g → lastState P g ≡ s → lastLevel g ≡ m → ⊥
 

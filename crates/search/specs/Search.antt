@@ -62,5 +62,8 @@ looked (found c ns) = true
 looked (refused n) = eqb n 16
 
 -- "the first 48 × S × L words are zero and the others untouched; after other refusals all are untouched"
+unfoldable pub wordsLeft : Plan → Bool → List ℕ → List ℕ
+wordsLeft P l ws = cond l (replicate (workWords P) 0 ++ drop (workWords P) ws) ws
+
 unfoldable pub wordsAfter : Plan → Result → List ℕ → List ℕ
-wordsAfter P r ws = cond (looked r) (replicate (workWords P) 0 ++ drop (workWords P) ws) ws
+wordsAfter P r ws = wordsLeft P (looked r) ws

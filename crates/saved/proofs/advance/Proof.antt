@@ -14,19 +14,19 @@ use Rattle.saved.proofs.go_on.Reads as go-on-reads
 use Rattle.saved.proofs.next_stop.Reads as next-stop-reads
 
 abbrev Inv-loop : tie.InvT-loop
-Inv-loop ws₀ plan code readings g table₀ t w₀ ws table w = (w .time ≤ t) × (At plan readings w ws × (Stack plan readings (w .count) table ws × Inside 0 (limit plan) ws₀ ws))
+Inv-loop ws₀ plan code readings g table₀ t slots w₀ ws table w = (w .time ≤ t) × (At plan readings w ws × (Stack plan readings (w .count) table ws × Inside 0 (limit plan) ws₀ ws))
 
 abbrev μ-loop : tie.MeasureT-loop
-μ-loop ws₀ plan code readings g table₀ t w₀ ws table w = t - w .time
+μ-loop ws₀ plan code readings g table₀ t slots w₀ ws table w = t - w .time
 
 loop-holds : tie.Need-loop-holds Inv-loop μ-loop
 loop-holds c = (c .before .before .before .pre .0 .0 .from, (c .before .before .before .pre .0 .0 .at, (c .before .before .before .pre .0 .1, inside-refl _ _ _)))
 
 next-stop-requires : tie.Need-next-stop-requires Inv-loop μ-loop
-next-stop-requires c κs = (stops (space-then (c .before .before .before .before .before .before .before .before .pre .0 .0 .space) (c .before .before .before .before .loop .inv .1 .1 .1 .size)) (c .before .before .before .before .loop .inv .1 .0) (c .before .before .before .before .loop .inv .1 .1 .0) (c .before .before .if1 .taken) (c .before .before .before .before .before .before .before .before .pre .0 .0 .most), c .before .before .before .before .before .before .before .before .pre .1)
+next-stop-requires c κs = (stops (space-then (c .before .before .before .before .before .before .before .before .pre .0 .0 .space) (c .before .before .before .before .loop .inv .1 .1 .1 .size)) (c .before .before .before .before .loop .inv .1 .0) (c .before .before .before .before .loop .inv .1 .1 .0) (c .before .before .if1 .taken) (c .before .before .before .before .before .before .before .before .pre .0 .0 .most), (c .before .before .before .before .before .before .before .before .pre .1 .0, c .before .before .before .before .before .before .before .before .pre .1 .1))
 
 go-on-requires : tie.Need-go-on-requires Inv-loop μ-loop
-go-on-requires c κs = ((record { space = space-then (c .before .before .before .before .before .before .before .before .before .before .before .pre .0 .0 .space) (c .before .before .before .before .before .before .before .loop .inv .1 .1 .1 .size); at = c .before .before .before .before .before .before .before .loop .inv .1 .0; from = omega (arith, c .before .before .next-stop .ensures .0); most = omega (arith, c .before .before .next-stop .ensures .1, c .before .before .before .before .before .before .before .before .before .before .before .pre .0 .0 .most) }, c .before .before .before .before .before .before .before .loop .inv .1 .1 .0), c .before .before .before .before .before .before .before .before .before .before .before .pre .1)
+go-on-requires c κs = ((record { space = space-then (c .before .before .before .before .before .before .before .before .before .before .before .pre .0 .0 .space) (c .before .before .before .before .before .before .before .loop .inv .1 .1 .1 .size); at = c .before .before .before .before .before .before .before .loop .inv .1 .0; from = omega (arith, c .before .before .next-stop .ensures .0); most = omega (arith, c .before .before .next-stop .ensures .1, c .before .before .before .before .before .before .before .before .before .before .before .pre .0 .0 .most) }, c .before .before .before .before .before .before .before .loop .inv .1 .1 .0), c .before .before .before .before .before .before .before .before .before .before .before .pre .1 .0)
 
 loop-less : tie.Need-loop-less Inv-loop μ-loop
 loop-less c = omega (arith, c .before .before .before .before .before .before .before .before .before .before .if1 .taken, c .before .before .before .before .before .before .before .next-stop .ensures, c .before .before .before .before .go-on .ensures .time)

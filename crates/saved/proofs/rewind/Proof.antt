@@ -28,7 +28,7 @@ advance-requires c κs = (
     },
     m .stack,
   ),
-  c .before .before .before .before .before .before .before .before .before .before .before .before .pre .1,
+  (c .before .before .before .before .before .before .before .before .before .before .before .before .pre .1, omega arith),
 )
 
 same-length : tie.Need-same-length

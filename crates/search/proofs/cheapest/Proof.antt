@@ -7,26 +7,27 @@ use Rattle.search.proofs.cheapest.Lts as lts
 use Rattle.back.proofs.best_end.Reads as best-end-reads
 use Rattle.search.proofs.forward.Reads as forward-reads
 
--- src/lib.rt:99:9
 forward-requires : tie.Need-forward-requires
 forward-requires c κs = search needs
 
--- src/lib.rt:101:9
 best-end-requires : tie.Need-best-end-requires
 best-end-requires c κs = may-read (c .before .before .before .before .before .before .before .before .before .before .before .pre .0 .0) (c .before .before .before .before .before .forward .ensures)
 
--- src/lib.rt:87:1
 same-length : tie.Need-same-length
 same-length c = search needs
 
--- src/lib.rt:87:1
 same-length-2 : tie.Need-same-length-2
 same-length-2 c = search needs
 
--- src/lib.rt:87:1
 returns : tie.Need-returns
 returns c = reaches (c .before .before .before .before .before .before .before .before .before .before .before .before .pre .0 .0) (c .before .before .before .before .before .before .forward .ensures) (c .best-end .ensures)
 
 pub cheapest-spec : {M : Type 1} → statement M
 cheapest-spec =
-    tie.close (tie.spec forward-requires best-end-requires same-length same-length-2 returns)
+    tie.close
+    (tie.spec
+    forward-requires
+    best-end-requires
+    same-length
+    same-length-2
+    returns)

@@ -9,59 +9,45 @@ use Rattle.search.proofs.cheapest.Reads as cheapest-reads
 use Rattle.search.proofs.finish_runs.Reads as finish-runs-reads
 use Rattle.search.proofs.way_back.Reads as way-back-reads
 
--- src/lib.rt:172:27
 slice-aggregate-put-plan : tie.Need-slice-aggregate-put-plan
 slice-aggregate-put-plan c = search needs
 
--- src/lib.rt:172:5
 put-plan-requires : tie.Need-put-plan-requires
 put-plan-requires c κs = search needs
 
--- src/lib.rt:173:38
 slice-aggregate-cheapest : tie.Need-slice-aggregate-cheapest
 slice-aggregate-cheapest c = search needs
 
--- src/lib.rt:173:58
 slice-aggregate-cheapest-2 : tie.Need-slice-aggregate-cheapest-2
 slice-aggregate-cheapest-2 c = search needs
 
--- src/lib.rt:173:9
 cheapest-requires : tie.Need-cheapest-requires
 cheapest-requires c κs = search needs
 
--- src/lib.rt:177:9
 same-length : tie.Need-same-length
 same-length c = search needs
 
--- src/lib.rt:177:9
 returns : tie.Need-returns
 returns c = none-found (c .before .before .before .before .before .before .before .before .before .before .before .before .before .before .before .pre) (c .before .before .before .before .before .before .before .cheapest .ensures) (c .if1 .taken)
 
--- src/lib.rt:187:36
 slice-aggregate-way-back : tie.Need-slice-aggregate-way-back
 slice-aggregate-way-back c = search needs
 
--- src/lib.rt:187:62
 slice-aggregate-way-back-2 : tie.Need-slice-aggregate-way-back-2
 slice-aggregate-way-back-2 c = search needs
 
--- src/lib.rt:187:9
 way-back-requires : tie.Need-way-back-requires
 way-back-requires c κs = (way-ready (c .before .before .before .before .before .before .before .before .before .before .before .before .before .before .before .before .before .before .before .pre) (c .before .before .before .before .before .before .before .before .before .before .before .cheapest .ensures) (c .before .before .before .before .if1 .left), c .before .before .before .before .before .before .before .before .before .before .before .before .before .before .before .before .put-plan .ensures .coded)
 
--- src/lib.rt:188:9
 finish-runs-requires : tie.Need-finish-runs-requires
 finish-runs-requires c κs = runs-ready (c .before .before .before .before .before .before .before .before .before .before .before .before .before .before .before .before .before .before .before .before .before .before .before .before .before .pre) (c .before .before .before .before .before .before .before .before .before .before .before .before .before .before .before .before .before .cheapest .ensures) (c .before .before .before .before .before .before .before .before .before .before .if1 .left) (c .before .before .before .before .before .way-back .ensures)
 
--- src/lib.rt:166:1
 same-length-2 : tie.Need-same-length-2
 same-length-2 c = search needs
 
--- src/lib.rt:166:1
 same-length-3 : tie.Need-same-length-3
 same-length-3 c = search needs
 
--- src/lib.rt:166:1
 returns-2 : tie.Need-returns-2
 returns-2 c = solved (c .before .before .before .before .before .before .before .before .before .before .before .before .before .before .before .before .before .before .before .before .before .before .before .before .before .before .before .pre) (c .before .before .before .before .before .before .before .before .before .before .before .before .before .before .before .before .before .before .before .cheapest .ensures) (c .before .before .before .before .before .before .before .before .before .before .before .before .if1 .left) (c .before .before .before .before .before .before .before .way-back .ensures) (c .before .finish-runs .ensures)
 

@@ -1,7 +1,7 @@
-use Rattle.labels.proofs.counts_at.Reads as counts-at-reads
 use Rattle.search.proofs.Shapes.{place-is}
 use Rattle.search.proofs.Points.{place-high, may-ask, told-none, told-least}
 use borrow.Author.Needs.{needs}
+use Rattle.labels.proofs.counts_at.Reads as counts-at-reads
 use Rattle.search.proofs.solve_point.Statement.{statement}
 use Rattle.search.proofs.solve_point.Tie as tie
 use Rattle.search.proofs.solve_point.Reads as reads

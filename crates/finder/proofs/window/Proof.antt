@@ -1,0 +1,32 @@
+use mathlib.Core.Path.{sym, _∙_, ap}
+use Rattle.finder.specs.Parts.{filledOutcome}
+use borrow.Author.Needs.{needs}
+use Rattle.finder.proofs.window.Statement.{statement}
+use Rattle.finder.proofs.window.Tie as tie
+use Rattle.finder.proofs.window.Reads as reads
+use Rattle.finder.proofs.window.Lts as lts
+use Rattle.finder.proofs.counted.Reads as counted-reads
+use Rattle.finder.proofs.refused.Reads as refused-reads
+
+enum-known-f : tie.Need-enum-known-f
+enum-known-f c = search needs
+
+counted-requires : tie.Need-counted-requires
+counted-requires c κs = search needs
+
+enum-known-f-2 : tie.Need-enum-known-f-2
+enum-known-f-2 c = search needs
+
+refused-requires : tie.Need-refused-requires
+refused-requires c κs = search needs
+
+returns : tie.Need-returns
+returns c = c .counted .ensures ∙ ap filledOutcome (sym (c .before .before .f .given .1))
+
+returns-2 : tie.Need-returns-2
+returns-2 c = c .refused .ensures ∙ ap filledOutcome (sym (c .before .before .f2 .given .1))
+
+pub window-spec : {M : Type 1} → statement M
+window-spec =
+    tie.close
+    (tie.spec enum-known-f counted-requires enum-known-f-2 refused-requires returns returns-2)
