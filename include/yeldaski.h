@@ -23,16 +23,18 @@
  *      6  edge state not below S, kind above 4, gap above 1,023 or set for kind 0 or 1, class above 15
  *      7  same from, to and kind as an earlier edge
  *      8  p = 0, q <= p, q above 4,096 or c above 1
- *      9  no readings or more than 4,096
+ *      9  no readings or more than 4,096; for a moving window more than 65,535
  *     10  a 33rd edge or a 65th label
  *     11  a plan that is not sealed, or a change to a sealed one (never given here: the plan of a file is always sealed)
  *     12  label starts before the earlier one's q
  *     13  a label's q above n
  *     14  workspace under 48 * S * L words, S the count of states, L = hi - lo + 1
- *     15  a buffer under 5 * n run numbers (for the answer reader 5 a run read), or too short for the bytes or readings to be written
+ *     15  a buffer under 5 * n run numbers (for the answer reader 5 a run read), or too short for the bytes, readings or costs to be written
  *     16  no allowed segmentation exists; for a cost at a point, none that may count ends in the named state at the named level
  *     17  answer file: runs that do not join from reading 1 on, last < first, last above 4,096, state not 0 to 7, edge not 0 to 31 (255 in the
  *         first run and only there), or no refusal number; in writing also no runs, fewer than five numbers a run, a level outside 16 bits
+ *     18  a moving window over a plan with labels
+ *     19  a window of 0 readings, of more than 1,024 or of more than the record has
  */
 #ifndef YELDASKI_H
 #define YELDASKI_H
@@ -48,7 +50,7 @@ extern "C" {
 typedef struct {
     uint8_t refusal; /* 0 for none */
     uint64_t cost;   /* of a search or a point; otherwise 0 */
-    size_t count;    /* how many runs, readings or bytes were written */
+    size_t count;    /* how many runs, costs, readings or bytes were written */
 } yeldaski_outcome;
 
 /* What reading an answer file gives. Where the file was not read, held, cost and count are 0; where it holds a refusal, cost and count are 0. */
@@ -59,7 +61,7 @@ typedef struct {
     size_t count;    /* and how many runs */
 } yeldaski_reply;
 
-/* Words of workspace for a search or a cost at a point, for 1 to 8 states and 1 to 1,024 levels. */
+/* Words of workspace for a search, a cost at a point or a moving window, for 1 to 8 states and 1 to 1,024 levels. */
 #define YELDASKI_WORDS(states, levels) ((size_t)48 * (states) * (levels))
 
 /* Decodes the readings of a plan file. count = how many.
@@ -89,6 +91,16 @@ yeldaski_outcome yeldaski_search(const uint8_t *file, size_t file_len, const int
 yeldaski_outcome yeldaski_point(const uint8_t *file, size_t file_len, const int16_t *readings, size_t readings_len, uint8_t state,
                                 int16_t level, uint64_t *workspace, size_t workspace_len);
 
+/* The least cost of every stretch of w readings of a long record: that of a search over the stretch alone. The readings in the file are not looked
+ * at. count = how many stretches there are, record_len - w + 1. Every stretch is searched anew, so wide windows over a long record take minutes.
+ * Refuses: plan reader, 9 (no readings or more than 65,535), 18, 19, 14, 15 (costs_len under record_len - w + 1), 16 (no stretch has an allowed
+ * segmentation: without labels all of them have one or none has).
+ * costs: on success its first `count` numbers are the costs of the stretches that start at reading 1, 2, .. in this order, and the rest stays; on
+ * refusal all of it stays.
+ * workspace: as with yeldaski_search. */
+yeldaski_outcome yeldaski_windows(const uint8_t *file, size_t file_len, const int16_t *record, size_t record_len, size_t w, uint64_t *workspace,
+                                  size_t workspace_len, uint64_t *costs, size_t costs_len);
+
 /* Reads an answer file. held = the refusal that it holds; or cost = its cost, count = its runs.
  * Refuses: field by field to the end of the file cut header 1, tag 2, length 3, cut body 1, 17; then 15.
  * runs: where the file holds runs and is read, its first 5 * count numbers are the runs and the rest stays; otherwise all of it stays. */
@@ -100,7 +112,7 @@ yeldaski_reply yeldaski_read_answer(const uint8_t *file, size_t file_len, int32_
 yeldaski_outcome yeldaski_write_answer(uint64_t cost, const int32_t *runs, size_t runs_len, uint8_t *out, size_t out_len);
 
 /* Writes an answer file that holds a refusal number. count = bytes.
- * Refuses: 17 (number not 1 to 17), 15.
+ * Refuses: 17 (number not 1 to 19), 15.
  * out: on success its first `count` bytes are the file and the rest stays; on refusal all of it stays. */
 yeldaski_outcome yeldaski_write_refusal(uint8_t number, uint8_t *out, size_t out_len);
 

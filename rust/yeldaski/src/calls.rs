@@ -37,6 +37,10 @@ mod c {
             file: *const u8, file_len: usize, readings: *const i16, readings_len: usize, state: u8, level: i16,
             workspace: *mut u64, workspace_len: usize,
         ) -> Outcome;
+        pub fn yeldaski_windows(
+            file: *const u8, file_len: usize, record: *const i16, record_len: usize, w: usize,
+            workspace: *mut u64, workspace_len: usize, costs: *mut u64, costs_len: usize,
+        ) -> Outcome;
         pub fn yeldaski_read_answer(file: *const u8, file_len: usize, runs: *mut i32, runs_len: usize) -> Reply;
         pub fn yeldaski_write_answer(cost: u64, runs: *const i32, runs_len: usize, out: *mut u8, out_len: usize) -> Outcome;
         pub fn yeldaski_write_refusal(number: u8, out: *mut u8, out_len: usize) -> Outcome;
@@ -85,6 +89,23 @@ pub fn point(file: &[u8], readings: &[i16], state: u8, level: i16, workspace: &m
             level,
             workspace.as_mut_ptr(),
             workspace.len(),
+        )
+    }
+}
+
+pub fn windows(file: &[u8], record: &[i16], w: usize, workspace: &mut [u64], costs: &mut [u64]) -> Outcome {
+    // Sound: `file` and `record` are only read, `workspace` and `costs` are ours alone; every w is accepted or refused.
+    unsafe {
+        c::yeldaski_windows(
+            file.as_ptr(),
+            file.len(),
+            record.as_ptr(),
+            record.len(),
+            w,
+            workspace.as_mut_ptr(),
+            workspace.len(),
+            costs.as_mut_ptr(),
+            costs.len(),
         )
     }
 }

@@ -18,15 +18,15 @@ pub struct Found {
     pub runs: usize,
 }
 
-/// What an answer file holds: a cost and runs, or the refusal of a search.
+/// What an answer file holds: a cost and runs, or the number of a refusal.
 #[derive(Debug, Clone, Copy, PartialEq, Eq)]
 pub enum Answer {
     Runs { cost: u64, count: usize },
     Refused(Refusal),
 }
 
-/// The words of 64 bits that a search or a cost at a point needs for so many states (1 to 8) and levels (1 to 1,024). A product that does not fit
-/// gives `usize::MAX`, which is more than can be lent.
+/// The words of 64 bits that a search, a cost at a point or a moving window needs for so many states (1 to 8) and levels (1 to 1,024). A product that
+/// does not fit gives `usize::MAX`, which is more than can be lent.
 pub fn work_words(states: usize, levels: usize) -> usize {
     states.saturating_mul(levels).saturating_mul(48)
 }
@@ -64,6 +64,20 @@ pub fn point(file: &[u8], readings: &[i16], state: u8, level: i16, workspace: &m
     let o = calls::point(file, readings, state, level, workspace);
     accepted(o.refusal)?;
     Ok(o.cost)
+}
+
+/// The least cost of every stretch of `w` readings of a long record: that of a search over the stretch alone. The readings in the file are not
+/// looked at.
+///
+/// With n readings in `record`, the costs of the stretches that start at reading 1, 2, .. n − w + 1 go to the front of `costs` in this order, and
+/// their number is given; the rest of `costs`, and on refusal all of it, stays. Every stretch is searched anew, so wide windows over a long record
+/// take minutes.
+///
+/// Refusals: those of the plan reader, then 9 (here: no readings or more than 65,535), 18 (a plan with labels), 19 (a `w` of 0, above 1,024 or above
+/// the record), 14, 15 (`costs` under n − w + 1 numbers), 16 (no stretch has an allowed segmentation: without labels all of them have one or none
+/// has). `workspace` afterwards is as with [`search`].
+pub fn windows(file: &[u8], record: &[i16], w: usize, workspace: &mut [u64], costs: &mut [u64]) -> Result<usize, Refusal> {
+    counted(calls::windows(file, record, w, workspace, costs))
 }
 
 /// Reads an answer file; the runs' numbers, five a run, go to the front of `runs`.

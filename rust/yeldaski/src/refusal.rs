@@ -1,7 +1,7 @@
 //! The numbered refusals and their sentences.
 use std::fmt;
 
-/// Why a call was refused: a number from 1 to 17.
+/// Why a call was refused: a number from 1 to 19.
 #[derive(Debug, Clone, Copy, PartialEq, Eq)]
 pub struct Refusal(pub u8);
 
@@ -23,13 +23,13 @@ fn sentence(number: u8) -> &'static str {
         6 => "edge state not below S, kind above 4, gap above 1,023 or set for kind 0 or 1, class above 15",
         7 => "same from, to and kind as an earlier edge",
         8 => "p = 0, q ≤ p, q above 4,096 or c above 1",
-        9 => "no readings or more than 4,096",
+        9 => "no readings or more than 4,096 (for a moving window more than 65,535)",
         10 => "a 33rd edge or a 65th label",
-        11 => "an edge after a label, an addition or sealing after sealing, or a search, point or writing with an unsealed plan",
+        11 => "an edge after a label, an addition or sealing after sealing, or a search, point, moving window or writing with an unsealed plan",
         12 => "label starts before the earlier one's q",
         13 => "a label's q above n",
         14 => "workspace under 48 × S × L words of 64 bits",
-        15 => "a buffer under 5 × n run numbers (for the answer reader 5 a run read), or too short for the bytes or readings to be written",
+        15 => "a buffer under 5 × n run numbers (for the answer reader 5 a run read), or too short for the bytes, readings or costs to be written",
         16 => {
             "no allowed segmentation exists; for a cost at a point, none that it may count (the end set ignored) ends in the named state at \
              the named level"
@@ -39,6 +39,8 @@ fn sentence(number: u8) -> &'static str {
              state not 0 to 7, edge not 0 to 31 (255 is required in the first run and wrong later), or a refusal number not in the two lists; \
              in writing also no runs, fewer than five numbers a run, or a level outside 16-bit signed"
         }
+        18 => "a moving window over a plan with labels",
+        19 => "a window of 0 readings, of more than 1,024 or of more than the record has",
         _ => "not a refusal of this library",
     }
 }

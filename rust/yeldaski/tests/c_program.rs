@@ -15,7 +15,15 @@ refusal: refusal 0, cost 0, count 4
 read: refusal 0, held 16, cost 0, count 0
 segment: refusal 0, cost 0, count 22
 810008000000000000000182000800010002000003FF
-none: 1 1 1 1 17 15 15 15 9 15 9 14 15 9 14 15
+windows: refusal 19, cost 0, count 0
+7 8 9
+windows: refusal 0, cost 0, count 2
+0 0 9
+windows: refusal 0, cost 0, count 1
+1 8 9
+windows: refusal 19, cost 0, count 0
+7 8 9
+none: 1 1 1 1 1 17 15 15 15 9 15 9 14 15 9 14 9 14 15 15
 read: refusal 1, held 0, cost 0, count 0
 segment: refusal 0, cost 0, count 4
 8300010F

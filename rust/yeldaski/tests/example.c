@@ -15,14 +15,26 @@ static void print_bytes(const uint8_t *bytes, size_t count) {
     printf("\n");
 }
 
+/* Windows of 0 to 3 readings over a record of 2; the list keeps what a call does not fill. */
+static void moving_window(const int16_t *record, uint64_t *workspace) {
+    for (size_t w = 0; w <= 3; w++) {
+        uint64_t costs[3] = {7, 8, 9};
+        yeldaski_outcome o = yeldaski_windows(plan, sizeof plan, record, 2, w, workspace, YELDASKI_WORDS(1, 10), costs, 3);
+        show("windows", &o);
+        for (size_t i = 0; i < 3; i++) printf("%llu%c", (unsigned long long)costs[i], i < 2 ? ' ' : '\n');
+    }
+}
+
 /* NULL with a length of 0 for every list, and for each list of a plan's calls alone. */
 static void no_lists(int16_t *readings, uint64_t *workspace, int32_t *runs) {
     uint8_t out[4];
+    uint64_t costs[2];
     yeldaski_outcome nothing[] = {
         yeldaski_read_plan(NULL, 0, NULL, 0),
         yeldaski_write_plan(NULL, 0, NULL, 0, NULL, 0),
         yeldaski_search(NULL, 0, NULL, 0, NULL, 0, NULL, 0),
         yeldaski_point(NULL, 0, NULL, 0, 0, 0, NULL, 0),
+        yeldaski_windows(NULL, 0, NULL, 0, 0, NULL, 0, NULL, 0),
         yeldaski_write_answer(0, NULL, 0, NULL, 0),
         yeldaski_write_refusal(1, NULL, 0),
         yeldaski_segment(NULL, 0, NULL, 0, NULL, 0, NULL, 0, NULL, 0),
@@ -34,6 +46,9 @@ static void no_lists(int16_t *readings, uint64_t *workspace, int32_t *runs) {
         yeldaski_search(plan, sizeof plan, readings, 2, workspace, 480, NULL, 0),
         yeldaski_point(plan, sizeof plan, NULL, 0, 0, 5, workspace, 480),
         yeldaski_point(plan, sizeof plan, readings, 2, 0, 5, NULL, 0),
+        yeldaski_windows(plan, sizeof plan, NULL, 0, 1, workspace, 480, costs, 2),
+        yeldaski_windows(plan, sizeof plan, readings, 2, 1, NULL, 0, costs, 2),
+        yeldaski_windows(plan, sizeof plan, readings, 2, 1, workspace, 480, NULL, 0),
         yeldaski_write_answer(0, runs, 5, NULL, 0),
     };
     printf("none:");
@@ -71,6 +86,7 @@ int main(void) {
     o = yeldaski_segment(plan, sizeof plan, readings, 2, workspace, 480, runs, 10, out, sizeof out);
     show("segment", &o);
     print_bytes(out, o.count);
+    moving_window(readings, workspace);
     no_lists(readings, workspace, runs);
     return 0;
 }

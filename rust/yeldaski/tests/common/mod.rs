@@ -132,6 +132,19 @@ pub fn point(file: &[u8], readings: &[i16], state: u8, level: i16, need: usize, 
     result.map_err(|r| r.0)
 }
 
+/// A moving window with so many words and costs lent; `need` is 48 S L.
+pub fn windows(file: &[u8], record: &[i16], w: usize, need: usize, words: usize, room: usize) -> Result<Vec<u64>, u8> {
+    let mut workspace = dirty(words);
+    let mut refusal = None;
+    let costs = filled(room, |costs| {
+        let result = yeldaski::windows(file, record, w, &mut workspace, costs);
+        refusal = result.err();
+        result
+    });
+    cleared(&workspace, if matches!(refusal, None | Some(Refusal(16))) { need } else { 0 });
+    costs
+}
+
 pub fn read_plan(file: &[u8], room: usize) -> Result<Vec<i16>, u8> {
     filled(room, |readings| yeldaski::read_plan(file, readings))
 }
