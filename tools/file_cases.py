@@ -2,9 +2,10 @@
 """file_cases.py ORACLE PREFIX PLANDIR.. -- REPLYDIR..: stored cases of the programs plan_cases and answer_cases.
 
 ORACLE is the reference program; the directories are written by it:
-    ORACLE --tickets 0 gen 13 240 damaged --profile damaged
-    ORACLE --tickets 0 gen 7 240 small --profile small
-    ORACLE --tickets 0 gen 7 240 replies --profile replies
+    ORACLE --tickets 1 gen 13 240 damaged --profile damaged
+    ORACLE --tickets 1 gen 7 240 small --profile small
+    ORACLE --tickets 1 gen 7 240 replies --profile replies
+and given in this order: damaged small -- replies. 1 is the last change request in force.
 Writes PREFIXplan.stdin and .stdout, PREFIXanswer.stdin and .stdout. Each file goes to stdin with its length in two bytes in front. The expected
 lines are made of what the reference program's decode-plan and decode-answer print, never of our own output.
 """
@@ -50,7 +51,7 @@ def store(oracle, command, files, line, prefix):
         for f in files:
             data = open(f, 'rb').read()
             given.write(struct.pack('>H', len(data)) + data)
-            text = subprocess.run([oracle, '--tickets', '0', command], input=data, capture_output=True).stdout.decode()
+            text = subprocess.run([oracle, '--tickets', '1', command], input=data, capture_output=True).stdout.decode()
             wanted.write(line(text) + '\n')
 
 

@@ -48,6 +48,42 @@ pub fn usual() -> Vec<Case> {
     cases
 }
 
+/// A moving window of w readings over a record.
+pub struct Moving {
+    pub case: Case,
+    pub w: usize,
+}
+
+impl Moving {
+    fn of(mut case: Case, w: usize) -> Moving {
+        case.name += &format!(", w = {w}");
+        Moving { case, w }
+    }
+
+    /// How many parts of w readings the record has.
+    pub fn parts(&self) -> usize {
+        self.case.readings.len() + 1 - self.w
+    }
+}
+
+/// Readings that one call hands to the search, times the edges of the plan: so many that a call takes some tenths of a second at most.
+const HANDED: usize = 400_000;
+
+/// Two widths on the usual graphs, labels aside, over as much of the record as is quick; and one whole long record.
+pub fn moving() -> Vec<Moving> {
+    let mut all = vec![];
+    for case in usual().iter().filter(|case| case.plan.labels.is_empty()) {
+        for w in [64, 1_024] {
+            let parts = HANDED / case.plan.edges.len() / w;
+            let readings = case.readings[..LONGEST.min(parts + w - 1)].to_vec();
+            let (name, plan) = (case.name.clone(), case.plan.clone());
+            all.push(Moving::of(Case { name, plan, readings }, w));
+        }
+    }
+    all.push(Moving::of(traced("any, 65,535 readings", any(80, class_for(80)), 65_535), 64));
+    all
+}
+
 /// Graphs and records that make many pieces.
 pub fn worst() -> Vec<Case> {
     let levels = 1_024;

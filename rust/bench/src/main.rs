@@ -7,19 +7,19 @@ mod layer;
 mod list;
 mod measure;
 mod model;
+mod moving;
 mod page;
 mod piece;
 mod saved;
 mod search;
 
-use cases::Case;
-use measure::Measured;
 use shared::options::{program, wrong, Opt};
 use std::process::ExitCode;
 
-const OPTIONS: [Opt; 3] = [
+const OPTIONS: [Opt; 4] = [
     Opt::with("repeats", "R", "runs of each call, of which the least time counts (default 5)"),
     Opt::flag("worst", "also the worst known records (longer)"),
+    Opt::with("only", "TEXT", "only the cases with this text in their name, for a quick look"),
     Opt::with(
         "write",
         "PATH",
@@ -37,12 +37,13 @@ fn with_notes(text: &str, path: &str) -> String {
     format!("{text}{notes}")
 }
 
-fn measure_all(cases: &[Case], repeats: usize) -> Vec<Measured> {
-    let measured = |case: &Case| {
-        eprintln!("{}", case.name);
-        measure::measure(case, repeats)
+/// Measures the cases with this text in their name.
+fn measure_all<C, M>(cases: Vec<C>, only: &str, name: fn(&C) -> &str, measure: impl Fn(&C) -> M) -> Vec<M> {
+    let measured = |case: &C| {
+        eprintln!("{}", name(case));
+        measure(case)
     };
-    cases.iter().map(measured).collect()
+    cases.iter().filter(|case| name(case).contains(only)).map(measured).collect()
 }
 
 fn main() -> ExitCode {
@@ -51,17 +52,28 @@ fn main() -> ExitCode {
         Ok(args) => args,
         Err(status) => return status,
     };
-    match args.number("repeats", 1, 1_000_000, 5) {
-        Ok(repeats) => run(repeats as usize, args.flag("worst"), args.option("write")),
-        Err(message) => wrong("bench", &message),
+    let repeats = match args.number("repeats", 1, 1_000_000, 5) {
+        Ok(repeats) => repeats as usize,
+        Err(message) => return wrong("bench", &message),
+    };
+    match (args.option("only"), args.option("write")) {
+        (Some(_), Some(_)) => wrong("bench", "--only leaves cases out, and the page that --write writes has all"),
+        (only, page) => run(repeats, args.flag("worst"), only.unwrap_or(""), page),
     }
 }
 
-fn run(repeats: usize, with_worst: bool, page: Option<&str>) -> ExitCode {
-    let usual = measure_all(&cases::usual(), repeats);
-    let growing = measure_all(&cases::growing(), repeats);
-    let worst = if with_worst { measure_all(&cases::worst(), 1) } else { vec![] };
-    let text = page::write(&usual, &growing, &worst);
+fn run(repeats: usize, with_worst: bool, only: &str, page: Option<&str>) -> ExitCode {
+    let searches = |cases, repeats| measure_all(cases, only, |case: &cases::Case| &case.name, |case| measure::measure(case, repeats));
+    let usual = searches(cases::usual(), repeats);
+    let growing = searches(cases::growing(), repeats);
+    let moving = measure_all(
+        cases::moving(),
+        only,
+        |moving| &moving.case.name,
+        |moving| moving::measure(moving, repeats),
+    );
+    let worst = if with_worst { searches(cases::worst(), 1) } else { vec![] };
+    let text = page::write(&usual, &growing, &worst, &moving);
     print!("{text}");
     if let Some(path) = page {
         if let Err(error) = std::fs::write(path, with_notes(&text, path)) {

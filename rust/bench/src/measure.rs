@@ -28,7 +28,8 @@ struct Buffers {
     runs: Vec<i32>,
 }
 
-fn time<R>(least: &mut f64, call: impl FnOnce() -> R) {
+/// Calls, and keeps the time where it is the least.
+pub fn time<R>(least: &mut f64, call: impl FnOnce() -> R) {
     let start = clock::now();
     black_box(call());
     *least = least.min((clock::now() - start).as_secs_f64() * 1e3);

@@ -1,5 +1,6 @@
 //! The tables, as a Markdown page.
 use crate::measure::{Measured, Times};
+use crate::moving::Moved;
 
 const TEXT: &str = "\
 # Benchmark
@@ -19,6 +20,8 @@ least of several runs, the programmes by turns in one process. Times are millise
 - **proved / Rust**: below 1 the proved code is faster. **dense / proved**: above 1 the proved code is faster.
 - **pieces**: mean and most pieces of a cost function. **passes**: steps forward of a whole search divided by the readings. Both are counted in
   the Rust version.
+- **moving window**: `yeldaski_windows`, against one pass forward for each part in Rust. Times are nanoseconds for each reading handed to a search: the
+  time divided by parts × w. **pass**: one pass over the same record (of the long one its first 4,096 readings), as in cost only, divided by its readings.
 ";
 
 fn ratio(a: f64, b: f64) -> String {
@@ -36,8 +39,11 @@ fn times(t: &Times) -> String {
     )
 }
 
-/// The columns of one kind of call.
+/// The columns of one kind of call; nothing where there are no rows.
 fn table(title: &str, first: &str, rows: &[Measured], of: fn(&Measured) -> &Times) -> String {
+    if rows.is_empty() {
+        return String::new();
+    }
     let mut text = format!("\n## {title}\n\n| {first} | proved | Rust | dense | proved / Rust | dense / proved |\n|---|---|---|---|---|---|\n");
     for row in rows {
         text += &format!("| {} | {} |\n", row.name, times(of(row)));
@@ -45,7 +51,28 @@ fn table(title: &str, first: &str, rows: &[Measured], of: fn(&Measured) -> &Time
     text
 }
 
+fn windows(rows: &[Moved]) -> String {
+    if rows.is_empty() {
+        return String::new();
+    }
+    let mut text = String::from("\n## Moving window, nanoseconds for each reading handed to a search\n\n");
+    text += "| case | parts | proved | Rust | pass, proved | pass, Rust | proved / Rust | proved / pass, proved | proved / pass, Rust |\n";
+    text += "|---|---|---|---|---|---|---|---|---|\n";
+    for Moved { name, parts, window, pass } in rows {
+        let ratios = [window.rust, pass.proved, pass.rust].map(|time| ratio(window.proved, time)).join(" | ");
+        let (w, p) = (window, pass);
+        text += &format!(
+            "| {name} | {parts} | {:.0} | {:.0} | {:.0} | {:.0} | {ratios} |\n",
+            w.proved, w.rust, p.proved, p.rust
+        );
+    }
+    text
+}
+
 fn pieces(rows: &[&Measured]) -> String {
+    if rows.is_empty() {
+        return String::new();
+    }
     let mut text = String::from("\n## Pieces and passes\n\n| case | mean pieces | most pieces | passes |\n|---|---|---|---|\n");
     for row in rows {
         let mean = row.stats.pieces as f64 / row.stats.functions.max(1) as f64;
@@ -54,14 +81,13 @@ fn pieces(rows: &[&Measured]) -> String {
     text
 }
 
-pub fn write(usual: &[Measured], growing: &[Measured], worst: &[Measured]) -> String {
+pub fn write(usual: &[Measured], growing: &[Measured], worst: &[Measured], moving: &[Moved]) -> String {
     let mut text = String::from(TEXT);
     text += &table("Whole search, n = 4,096", "case", usual, |row| &row.whole);
     text += &table("Cost only, n = 4,096", "case", usual, |row| &row.cost);
     text += &table("How a whole search grows", "case", growing, |row| &row.whole);
-    if !worst.is_empty() {
-        text += &table("Worst known records, whole search, n = 4,096", "case", worst, |row| &row.whole);
-    }
+    text += &table("Worst known records, whole search, n = 4,096", "case", worst, |row| &row.whole);
+    text += &windows(moving);
     let all: Vec<&Measured> = usual.iter().chain(worst).collect();
     text + &pieces(&all)
 }

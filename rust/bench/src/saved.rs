@@ -27,11 +27,14 @@ fn layer_length(ws: &[u64], fr: Frame, plan: &Plan, cur: usize, t: usize) -> usi
     (0..counts_at(plan, t) * fr.states).map(|j| length(ws, fr.list(cur, 0, j), fr.hi)).sum()
 }
 
-/// Slots that are free, later layers taken as a quarter larger than the one at hand.
-pub fn free_slots(ws: &[u64], fr: Frame, plan: &Plan, saved: &Saved, cur: usize, t: usize) -> usize {
+/// Slots that are free of so many, later layers taken as a quarter larger than the one at hand.
+pub fn free_slots(ws: &[u64], fr: Frame, plan: &Plan, saved: &Saved, cur: usize, t: usize, slots: usize) -> usize {
+    if slots <= saved.count {
+        return 0;
+    }
     let need = layer_length(ws, fr, plan, cur, t) * 5 / 4;
     let free = fr.words() - saved.off[saved.count];
-    (free / need.max(1)).min(SLOTS - saved.count)
+    (free / need.max(1)).min(slots - saved.count)
 }
 
 /// Saves the layer at `cur` as that after t readings, where there is room.

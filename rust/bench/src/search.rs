@@ -42,14 +42,14 @@ fn step(ws: &mut [u64], fr: Frame, plan: &Plan, z: &[i16], wk: &mut Walk) {
     wk.steps += 1;
 }
 
-/// Forward to t, with layers saved on the way.
-fn advance(ws: &mut [u64], fr: Frame, plan: &Plan, z: &[i16], wk: &mut Walk, t: usize) {
-    let mut save_at = next_save(wk.time, t, free_slots(ws, fr, plan, &wk.saved, wk.cur, wk.time));
+/// Forward to t, with layers saved on the way in at most so many slots.
+fn advance(ws: &mut [u64], fr: Frame, plan: &Plan, z: &[i16], wk: &mut Walk, t: usize, slots: usize) {
+    let mut save_at = next_save(wk.time, t, free_slots(ws, fr, plan, &wk.saved, wk.cur, wk.time, slots));
     while wk.time < t {
         step(ws, fr, plan, z, wk);
         if wk.time == save_at && wk.time < t {
             save(ws, fr, plan, &mut wk.saved, wk.cur, wk.time);
-            save_at = next_save(wk.time, t, free_slots(ws, fr, plan, &wk.saved, wk.cur, wk.time));
+            save_at = next_save(wk.time, t, free_slots(ws, fr, plan, &wk.saved, wk.cur, wk.time, slots));
         }
     }
 }
@@ -66,7 +66,7 @@ fn rewind(ws: &mut [u64], fr: Frame, plan: &Plan, z: &[i16], wk: &mut Walk, t: u
         first_layer(ws, fr, plan, wk.cur, z[0] as i64);
         wk.time = 1;
     }
-    advance(ws, fr, plan, z, wk, t);
+    advance(ws, fr, plan, z, wk, t, SLOTS);
 }
 
 /// A point of a segmentation: count, state, level, and its least cost.
@@ -146,27 +146,39 @@ fn step_back(ws: &[u64], fr: Frame, plan: &Plan, boundary: usize, cur: usize, pt
     unreachable!("some edge meets the cost")
 }
 
-fn forward(ws: &mut [u64], fr: Frame, plan: &Plan, z: &[i16]) -> Walk {
+fn forward(ws: &mut [u64], fr: Frame, plan: &Plan, z: &[i16], slots: usize) -> Walk {
     let mut wk = Walk::start(fr);
     first_layer(ws, fr, plan, 0, z[0] as i64);
-    advance(ws, fr, plan, z, &mut wk, z.len());
+    advance(ws, fr, plan, z, &mut wk, z.len(), slots);
     wk
 }
 
 /// Cost at a point after all of z; the workspace is cleared, as the proved call does.
 pub fn point(ws: &mut [u64], plan: &Plan, z: &[i16], s: usize, m: i64) -> Option<i64> {
     let fr = Frame::of(plan);
-    let wk = forward(ws, fr, plan, z);
+    let wk = forward(ws, fr, plan, z, 0);
     let costs = (0..counts_at(plan, z.len())).map(|k| least_in(ws, fr.list(wk.cur, k, s), m, m, fr.lo).value);
     let least = costs.min().filter(|cost| *cost < NONE);
     ws.fill(0);
     least
 }
 
+/// The least cost of each part of w readings, by a pass forward for each; the workspace is cleared at the end, as the proved call does.
+pub fn windows(ws: &mut [u64], plan: &Plan, z: &[i16], w: usize) -> Vec<i64> {
+    let fr = Frame::of(plan);
+    let costs = z.windows(w).map(|part| {
+        let wk = forward(ws, fr, plan, part, 0);
+        best_end(ws, fr, plan, wk.cur).value
+    });
+    let costs = costs.collect();
+    ws.fill(0);
+    costs
+}
+
 /// The search; the workspace is cleared, as the proved call does. Also the steps forward that it took.
 pub fn search(ws: &mut [u64], plan: &Plan, z: &[i16]) -> (Option<Answer>, usize) {
     let fr = Frame::of(plan);
-    let mut wk = forward(ws, fr, plan, z);
+    let mut wk = forward(ws, fr, plan, z, SLOTS);
     let end = best_end(ws, fr, plan, wk.cur);
     let answer = (end.value < NONE).then(|| Answer {
         cost: end.value,

@@ -14,6 +14,8 @@ pub enum Profile {
     Mutated,
     Wide,
     Large,
+    /// A tiny plan, for the moving window over the longest record.
+    Long,
     Replies,
     MutatedReplies,
 }
@@ -28,6 +30,7 @@ impl Profile {
             Profile::Mutated => "mutated",
             Profile::Wide => "wide",
             Profile::Large => "large",
+            Profile::Long => "long",
             Profile::Replies => "replies",
             Profile::MutatedReplies => "mutated replies",
         }
@@ -42,6 +45,9 @@ impl Profile {
 pub fn profile_of(case: u64) -> Profile {
     if case % 1_000 == 500 {
         return Profile::Large;
+    }
+    if case % 250 == 130 {
+        return Profile::Long;
     }
     match case % 40 {
         0..=7 => Profile::Tiny,
@@ -71,6 +77,7 @@ pub fn file(rng: &mut Rng, profile: Profile, case: u64) -> Vec<u8> {
         }
         Profile::Wide => wide(rng).file(RULES),
         Profile::Large => large(rng, case / 1_000).file(RULES),
+        Profile::Long => tiniest(rng).file(RULES),
         Profile::Replies if rng.one_in(2) => gen::damaged_reply(rng, RULES, 0),
         Profile::Replies => gen::damaged_reply(rng, RULES, damage),
         Profile::MutatedReplies => {
@@ -78,6 +85,18 @@ pub fn file(rng: &mut Rng, profile: Profile, case: u64) -> Vec<u8> {
             mutated(rng, whole)
         }
     }
+}
+
+/// So few states, levels and edges that the oracle searches all 65,535 parts of a record in some hundredths of a second.
+fn tiniest(rng: &mut Rng) -> Case {
+    let size = Size {
+        n: 5,
+        states: 2,
+        levels: 3,
+        edges: 4,
+        cells: 6,
+    };
+    gen::random_case(rng, RULES, size)
 }
 
 fn special(rng: &mut Rng) -> Case {

@@ -6,7 +6,7 @@ use crate::proved::{found_bytes, Call, Left, Outcome, Seen};
 use crate::rng::Rng;
 use crate::search::{self, Record, Run};
 use crate::tally::Tally;
-use crate::RULES;
+use crate::{windows, RULES};
 
 /// Two answers that are not the same, or a buffer with wrong content.
 pub struct Difference {
@@ -20,7 +20,7 @@ pub struct Asker {
     pub tally: Tally,
 }
 
-type Checked = Result<(), Box<Difference>>;
+pub type Checked = Result<(), Box<Difference>>;
 
 impl Asker {
     pub fn new() -> Asker {
@@ -28,7 +28,7 @@ impl Asker {
     }
 
     /// Asks the proved library and compares.
-    fn ask(&mut self, rng: &mut Rng, file: &[u8], call: Call, oracle: Outcome) -> Checked {
+    pub fn ask(&mut self, rng: &mut Rng, file: &[u8], call: Call, oracle: Outcome) -> Checked {
         let proved = call.ask(rng, file);
         self.tally.call(call.name(), shown_refusal(&call, &oracle));
         if agree(&proved, &oracle) {
@@ -70,7 +70,7 @@ pub fn run_case(asker: &mut Asker, rng: &mut Rng, profile: Profile, case: u64) -
 }
 
 /// A buffer's length: as needed, one too short, longer, or none.
-fn room(rng: &mut Rng, needed: usize) -> usize {
+pub fn room(rng: &mut Rng, needed: usize) -> usize {
     match rng.below(8) {
         0 => needed.saturating_sub(1),
         1 => needed + rng.range(1, 9) as usize,
@@ -94,8 +94,8 @@ fn numbers_of(runs: &[Run]) -> Vec<i32> {
         .collect()
 }
 
-fn need_of(plan: &Plan) -> usize {
-    48 * plan.states as usize * plan.levels()
+pub fn need_of(plan: &Plan) -> usize {
+    RULES.words_per_cell() as usize * plan.states as usize * plan.levels()
 }
 
 /// The whole program `segment`: its answer, and what it leaves in the buffers.
@@ -120,25 +120,31 @@ fn broken_plan(asker: &mut Asker, rng: &mut Rng, file: &[u8], number: u8) -> Che
     let readings: Vec<i16> = (0..rng.below(4)).map(|_| rng.next() as i16).collect();
     let (words, room) = (rng.below(600) as usize, rng.below(60) as usize);
     let (state, level) = (rng.below(9) as u8, rng.next() as i16);
-    let other = readings.clone();
     let calls = [
         Call::ReadPlan { room },
         Call::WritePlan {
-            readings: other.clone(),
+            readings: readings.clone(),
             room: 10 * room,
         },
         Call::Search {
-            readings: other,
+            readings: readings.clone(),
             need: 0,
             words,
             room,
         },
         Call::Point {
-            readings,
+            readings: readings.clone(),
             state,
             level,
             need: 0,
             words,
+        },
+        Call::Windows {
+            w: windows::width(rng, readings.len()),
+            record: readings,
+            need: 0,
+            words,
+            room,
         },
     ];
     for call in calls {
@@ -167,7 +173,7 @@ fn sound_plan(asker: &mut Asker, rng: &mut Rng, file: &[u8], plan: &Plan, readin
         let part = part(rng, readings, 10 * most);
         point(asker, rng, file, plan, part)?;
     }
-    Ok(())
+    windows::ask(asker, rng, file, plan, readings, profile)
 }
 
 /// The record, a part from its start, no reading, or more readings than there may be.
@@ -241,7 +247,7 @@ fn reply_case(asker: &mut Asker, rng: &mut Rng, file: &[u8]) -> Checked {
         let changed = changed(rng, numbers_of(&runs));
         write_answer(asker, rng, u64::MAX - cost, changed)?;
     }
-    let number = if rng.one_in(2) { rng.below(20) } else { rng.below(256) } as u8;
+    let number = if rng.one_in(2) { rng.below(22) } else { rng.below(256) } as u8;
     let whole = files::write_answer(RULES, &Reply::Refused(number), u64::MAX);
     let room = room(rng, 4);
     asker.ask(rng, &[], Call::WriteRefusal { number, room }, whole.and_then(|bytes| fit(bytes, room, 4)))
@@ -296,33 +302,48 @@ fn runs_of(numbers: &[i32]) -> Option<Vec<Run>> {
 mod tests {
     use super::*;
 
-    /// A case whose oracle answer is changed must be found.
-    fn difference_of(change: impl Fn(Outcome) -> Outcome) -> Option<Box<Difference>> {
-        let plan = [
-            1, 0, 4, 0, 0, 0, 9, 2, 0, 3, 1, 1, 1, 3, 0, 6, 0, 0, 0, 0, 0, 0, 3, 0, 6, 0, 0, 1, 0, 0, 4, 5, 0, 4, 0, 3, 0, 4,
-        ];
-        let found = search::search(RULES, &files::read_plan(RULES, &plan).unwrap().0, &Record::plain(&[3, 4]), 480, 10);
-        let oracle = change(found.map(|found| found_bytes(found.cost, &numbers_of(&found.runs))));
-        let call = Call::Search {
-            readings: vec![3, 4],
-            need: 480,
-            words: 485,
-            room: 12,
-        };
-        Asker::new().ask(&mut Rng::new(3), &plan, call, oracle).err()
+    /// A plan file, with the readings 3 and 4.
+    const PLAN: [u8; 38] = [
+        1, 0, 4, 0, 0, 0, 9, 2, 0, 3, 1, 1, 1, 3, 0, 6, 0, 0, 0, 0, 0, 0, 3, 0, 6, 0, 0, 1, 0, 0, 4, 5, 0, 4, 0, 3, 0, 4,
+    ];
+
+    /// A call whose oracle answer is changed must be found.
+    fn difference_of(call: &Call, oracle: Outcome) -> Option<Box<Difference>> {
+        Asker::new().ask(&mut Rng::new(3), &PLAN, call.clone(), oracle).err()
+    }
+
+    fn every_change_is_found(call: Call, oracle: Vec<u8>) {
+        assert!(difference_of(&call, Ok(oracle.clone())).is_none());
+        for at in 0..oracle.len() {
+            let mut flipped = oracle.clone();
+            flipped[at] ^= 1;
+            assert!(difference_of(&call, Ok(flipped)).is_some());
+        }
+        assert!(difference_of(&call, Ok(oracle[8..].to_vec())).is_some());
+        assert!(difference_of(&call, Err(16)).is_some());
     }
 
     #[test]
     fn a_changed_answer_is_a_difference() {
-        assert!(difference_of(|oracle| oracle).is_none());
-        for at in 0..28 {
-            let flipped = |oracle: Outcome| {
-                let mut bytes = oracle.unwrap();
-                bytes[at] ^= 1;
-                Ok(bytes)
-            };
-            assert!(difference_of(flipped).is_some());
-        }
-        assert!(difference_of(|_| Err(16)).is_some());
+        let plan = files::read_plan(RULES, &PLAN).expect("a plan").0;
+        let record = Record::plain(&[3, 4, 6]);
+        let (readings, need, words) = (record.readings.clone(), 480, 485);
+        let found = search::search(RULES, &plan, &record, 480, 15).expect("an answer");
+        let call = Call::Search {
+            readings: readings.clone(),
+            need,
+            words,
+            room: 17,
+        };
+        every_change_is_found(call, found_bytes(found.cost, &numbers_of(&found.runs)));
+        let costs = search::window(RULES, &plan, &record, 2, 480, 2).expect("costs");
+        let call = Call::Windows {
+            record: readings,
+            w: 2,
+            need,
+            words,
+            room: 3,
+        };
+        every_change_is_found(call, windows::cost_bytes(&costs));
     }
 }

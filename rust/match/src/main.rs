@@ -7,6 +7,7 @@ mod program;
 mod proved;
 mod report;
 mod tally;
+mod windows;
 
 /// The oracle's sources, unchanged. Its modules name each other by `crate::`, so they stand at the root of this crate.
 #[rustfmt::skip]
@@ -56,8 +57,8 @@ use shared::options::{program, wrong, Args, Opt};
 use std::process::ExitCode;
 use std::time::{Duration, Instant};
 
-/// No change request is in force.
-pub const RULES: rules::Rules = rules::Rules { tickets: 0 };
+/// The first change request is in force, the moving window, and no later one.
+pub const RULES: rules::Rules = rules::Rules { tickets: 1 };
 
 const OPTIONS: [Opt; 3] = [
     Opt::with("cases", "N", "how many cases (default 4000)"),

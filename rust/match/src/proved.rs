@@ -26,6 +26,13 @@ pub enum Call {
         need: usize,
         words: usize,
     },
+    Windows {
+        record: Vec<i16>,
+        w: usize,
+        need: usize,
+        words: usize,
+        room: usize,
+    },
     ReadPlan {
         room: usize,
     },
@@ -71,6 +78,7 @@ impl Call {
             Call::Segment { .. } => "segment",
             Call::Search { .. } => "search",
             Call::Point { .. } => "point",
+            Call::Windows { .. } => "windows",
             Call::ReadPlan { .. } => "read plan",
             Call::WritePlan { .. } => "write plan",
             Call::ReadAnswer { .. } => "read answer",
@@ -90,6 +98,13 @@ impl Call {
                 need,
                 words,
             } => point(rng, file, readings, *state, *level, *need, *words),
+            Call::Windows {
+                record,
+                w,
+                need,
+                words,
+                room,
+            } => windows(rng, file, record, *w, *need, *words, *room),
             Call::ReadPlan { room } => filled(rng, *room, |out| yeldaski::read_plan(file, out), |z: i16| z.to_be_bytes().to_vec()),
             Call::WritePlan { readings, room } => filled(rng, *room, |out| yeldaski::write_plan(file, readings, out), |b| vec![b]),
             Call::ReadAnswer { room } => read_answer(rng, file, *room),
@@ -134,6 +149,21 @@ fn point(rng: &mut Rng, file: &[u8], readings: &[i16], state: u8, level: i16, ne
     let fault = (!cleared(&workspace, result.err(), need)).then_some("workspace");
     let outcome = result.map(|cost| cost.to_be_bytes().to_vec()).map_err(|r| r.0);
     Seen { outcome, fault }
+}
+
+fn windows(rng: &mut Rng, file: &[u8], record: &[i16], w: usize, need: usize, words: usize, room: usize) -> Seen {
+    let mut workspace = Lent::new(rng, words);
+    let mut refusal = None;
+    let ask = |costs: &mut [u64]| {
+        let result = yeldaski::windows(file, record, w, &mut workspace.now, costs);
+        refusal = result.err();
+        result
+    };
+    let mut seen = filled(rng, room, ask, |cost| cost.to_be_bytes().to_vec());
+    if !cleared(&workspace, refusal, need) {
+        seen.fault = Some("workspace");
+    }
+    seen
 }
 
 /// A call that fills the front of one buffer, or leaves all of it.

@@ -10,10 +10,31 @@ fn hexadecimal(bytes: &[u8]) -> String {
     bytes.iter().map(|b| format!("{b:02X}")).collect()
 }
 
-fn answer(outcome: &Outcome) -> String {
+/// How many bytes of an answer are shown: the moving window may give half a million.
+const SHOWN: usize = 1_000;
+
+/// The answer; of a long one the bytes about the first difference, before which `same` are equal.
+fn answer(outcome: &Outcome, same: usize) -> String {
     match outcome {
-        Ok(bytes) => format!("answer {}", hexadecimal(bytes)),
+        Ok(bytes) if bytes.len() <= SHOWN => format!("answer {}", hexadecimal(bytes)),
+        Ok(bytes) => {
+            let from = same.saturating_sub(16);
+            let to = bytes.len().min(from + SHOWN);
+            format!(
+                "answer of {} bytes, after the first {from}: {}",
+                bytes.len(),
+                hexadecimal(&bytes[from..to])
+            )
+        }
         Err(number) => format!("refusal {number}"),
+    }
+}
+
+/// How many bytes of two answers are equal, up to their first difference.
+fn equal_bytes(one: &Outcome, other: &Outcome) -> usize {
+    match (one, other) {
+        (Ok(one), Ok(other)) => one.iter().zip(other).take_while(|(a, b)| a == b).count(),
+        _ => 0,
     }
 }
 
@@ -32,6 +53,7 @@ fn question(call: &Call) -> String {
         } => {
             format!("{}, state {state}, level {level}, {words} words lent", n(readings))
         }
+        Call::Windows { record, w, words, room, .. } => format!("{}, w {w}, {words} words and {room} costs lent", n(record)),
         Call::ReadPlan { room } => format!("{room} readings lent"),
         Call::WritePlan { readings, room } => format!("{}, {room} bytes lent", n(readings)),
         Call::ReadAnswer { room } => format!("{room} run numbers lent"),
@@ -41,9 +63,11 @@ fn question(call: &Call) -> String {
     format!("{}: {rest}", call.name())
 }
 
-/// The file of the case; where the call has readings of its own, the plan with those.
+/// The file of the case; where the call has readings of its own, the plan with those, unless they are more than a plan file holds.
 fn file_of(difference: &Difference) -> Vec<u8> {
-    if let Call::Search { readings, .. } | Call::Point { readings, .. } | Call::WritePlan { readings, .. } = &difference.call {
+    if let Call::Search { readings, .. } | Call::Point { readings, .. } | Call::Windows { record: readings, .. } | Call::WritePlan { readings, .. } =
+        &difference.call
+    {
         if let Ok((plan, _)) = files::read_plan(RULES, &difference.file) {
             if let Ok(file) = files::write_plan(RULES, &plan, &Record::plain(readings), u64::MAX) {
                 return file;
@@ -65,8 +89,9 @@ pub fn show(difference: &Difference, seed: u64, case: u64, profile: Profile) {
         ),
     }
     println!("asked   {}", question(&difference.call));
-    println!("proved  {}", answer(&difference.proved.outcome));
-    println!("oracle  {}", answer(&difference.oracle));
+    let same = equal_bytes(&difference.proved.outcome, &difference.oracle);
+    println!("proved  {}", answer(&difference.proved.outcome, same));
+    println!("oracle  {}", answer(&difference.oracle, same));
     if let Some(buffer) = difference.proved.fault {
         println!("the buffer for {buffer} does not hold what it should");
     }
