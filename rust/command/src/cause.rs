@@ -3,11 +3,12 @@ use crate::answer;
 use crate::check::counted;
 use crate::failure::sentence;
 use crate::locate::{agrees, is_cut, locate, Kind, Place};
-use crate::plan::{edge_of, label_of, with_labels, with_masks, Edge, Plan, KINDS, MAX_READINGS};
+use crate::plan::{edge_of, label_of, with_labels, with_masks, Edge, Plan, KINDS, MAX_READINGS, MAX_RECORD, MAX_WINDOW};
 use shared::fields::{number, signed, Field};
 use yeldaski::Refusal;
 
 const END: &str = "the end of the file";
+const NO_READINGS: &str = "there are no readings, at least 1 is due";
 
 /// The cause of a plan file's refusal, by the reader or by a search; the short sentence of the number where none is found.
 pub fn words(file: &[u8], refusal: Refusal) -> String {
@@ -30,11 +31,43 @@ pub fn of_field(kind: Kind, file: &[u8], refusal: Refusal) -> Option<String> {
 /// What is wrong with a number of readings, and what to do about too many.
 pub fn of_count(count: usize) -> String {
     match count {
-        0 => "there are no readings, at least 1 is due".to_string(),
+        0 => NO_READINGS.to_string(),
         _ => format!(
             "{count} readings, at most {MAX_READINGS}: split the record into parts of at most {MAX_READINGS} readings; each is searched by itself, \
              so mark as 'start' the states in which a later part may begin"
         ),
+    }
+}
+
+/// The same of a text or a record, which may be longer for a moving window; a plan file may not.
+pub fn of_record(count: usize) -> String {
+    let cause = of_count(count);
+    match count {
+        1..=MAX_RECORD => format!("{cause}; or try 'yeldaski windows', which takes the whole record, stretch by stretch"),
+        _ => cause,
+    }
+}
+
+/// Why a moving window of `w` readings over a record of `count` is refused, and what to do about it.
+pub fn of_windows(count: usize, w: usize, refusal: Refusal) -> String {
+    let room = count.min(MAX_WINDOW);
+    match refusal.0 {
+        9 if count == 0 => NO_READINGS.to_string(),
+        9 => {
+            // 9 comes before 19, so the window may be none.
+            let overlap = match w {
+                1..=MAX_WINDOW => format!("{}, one less than the window", counted(w - 1, "reading")),
+                _ => format!("one reading less than the window has, which is 1 to {MAX_WINDOW}"),
+            };
+            format!(
+                "{count} readings, at most {MAX_RECORD} for a moving window: split the record into parts that overlap by {overlap}, \
+                 so that no stretch is lost"
+            )
+        }
+        18 => "a moving window takes a plan without labels: --no-labels leaves them out".to_string(),
+        19 if w > count && w <= MAX_WINDOW => format!("a window of {w} readings, but the record has {count}: choose --window from 1 to {room}"),
+        19 => format!("a window of {}: choose --window from 1 to {room}", counted(w, "reading")),
+        _ => sentence(refusal).to_string(),
     }
 }
 

@@ -1,6 +1,6 @@
 //! The commands of the program: the one source of parsing, help, man page and shell completion.
 use crate::failure::{quoted, usage, Failure};
-use crate::{check, find, help, make, plot, run, show, verify};
+use crate::{check, find, help, make, plot, run, show, verify, windows};
 use shared::options::{did_you_mean, Args, Opt, HELP};
 
 pub struct Command {
@@ -57,7 +57,7 @@ const TITLE: Opt = Opt::with("title", "TEXT", "the title of the picture");
 const UNIT: Opt = Opt::with("unit", "TEXT", "the unit of the current, for the axis of the picture");
 const SIZE: Opt = Opt::with("size", "WxH", "width and height of the picture, as 800x400");
 
-pub const COMMANDS: [Command; 10] = [
+pub const COMMANDS: [Command; 11] = [
     Command {
         name: "find",
         about: "find the changes of records by a plan text, in one step",
@@ -87,6 +87,32 @@ pub const COMMANDS: [Command; 10] = [
         ],
         text: include_str!("help/find.txt"),
         act: find::act,
+    },
+    Command {
+        name: "windows",
+        about: "give the least cost of every stretch of a long record",
+        usage: "windows PLAN [RECORD] --window W [OPTIONS]",
+        files: 2,
+        options: &[
+            Opt::with("window", "W", "how many readings a stretch has, 1 to 1024; has to be given").short('w'),
+            COLUMN,
+            HEADER,
+            NO_HEADER,
+            Opt::flag("no-labels", "leave out the labels of the plan, with which a moving window is refused"),
+            Opt::with("format", "FORMAT", "table (without the option: a summary), csv or json (every stretch)").among(&FORMATS),
+            Opt::with("plot", "FILE", "also draw the cost over the start of the stretch to this SVG file"),
+            TITLE,
+            Opt::with(
+                "unit",
+                "TEXT",
+                "the unit of the current; the axis of the picture names its square, as costs are squares",
+            ),
+            SIZE,
+            Opt::with("jobs", "N", "search so many sections of the record at a time (without it: 1)"),
+            OUTPUT,
+        ],
+        text: include_str!("help/windows.txt"),
+        act: windows::act,
     },
     Command {
         name: "make",

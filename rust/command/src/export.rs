@@ -197,7 +197,7 @@ fn json_members([record, cost, refusal, sentence]: [String; 4], runs: &[String],
     format!("{blanks}{{\n{}\n{blanks}}}", lines.join(",\n"))
 }
 
-fn json_text(text: &str) -> String {
+pub fn json_text(text: &str) -> String {
     let escaped = |c: char| match c {
         '"' => "\\\"".to_string(),
         '\\' => "\\\\".to_string(),

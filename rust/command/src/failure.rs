@@ -60,6 +60,8 @@ pub fn sentence(refusal: Refusal) -> &'static str {
         15 => "a buffer is too short for what should be written",
         16 => "no segmentation is allowed by this plan",
         17 => "a run or a refusal number of the answer is wrong",
+        18 => "a moving window takes a plan without labels",
+        19 => "a window has 1 to 1024 readings, and no more than the record",
         _ => "not a refusal of this library",
     }
 }

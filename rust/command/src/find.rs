@@ -161,7 +161,7 @@ impl Task<'_> {
                 None
             }
             // The plan file has no room for a very long record, so the readings are counted here.
-            Answer::Refused(Refusal(9)) => Some(cause::of_count(readings.len())),
+            Answer::Refused(Refusal(9)) => Some(cause::of_record(readings.len())),
             Answer::Refused(refusal) => self.cause(&plan_file, *refusal),
         };
         let record = Some(name.to_string());

@@ -1,5 +1,5 @@
 //! `make`: a plan file from a plan text.
-use crate::cause::{cause, of_count};
+use crate::cause::{cause, of_record};
 use crate::failure::{numbered, quoted, refused, sentence, Failure};
 use crate::locate::{locate, Kind};
 use crate::plan::Edge;
@@ -27,7 +27,7 @@ pub fn act(args: &Args) -> Result<u8, Failure> {
     let file = bytes(&text, &readings);
     match (Kind::Plan.refusal(&file), record) {
         (None, _) => {}
-        (Some(refusal @ Refusal(9)), Some(record)) => return Err(refused(format!("{record}: {}", numbered(&of_count(readings.len()), refusal)))),
+        (Some(refusal @ Refusal(9)), Some(record)) => return Err(refused(format!("{record}: {}", numbered(&of_record(readings.len()), refusal)))),
         (Some(refusal), _) => return Err(at_line(&text, readings.len(), &file, refusal)),
     }
     warn_of_labels(&text, readings.len());
@@ -109,7 +109,7 @@ pub fn at_line(text: &Text, count: usize, file: &[u8], refusal: Refusal) -> Fail
     let cause = match refusal.0 {
         5 => states_cause(text),
         7 => same_edge(text, place.index.saturating_sub(2)),
-        9 => Some(of_count(count)),
+        9 => Some(of_record(count)),
         10 if place.index < edges_end => Some("this is the 33rd edge, at most 32 are allowed".to_string()),
         10 => Some("this is the 65th label, at most 64 are allowed".to_string()),
         number => cause(Kind::Plan, file, &place, number),

@@ -1,12 +1,13 @@
 //! The picture of a record: readings, runs, changes and labels.
 use crate::answer::Run;
 use crate::check::counted;
-use crate::colours::{self, text_on, DOT, INK, SMALL_TEXT, TEXT};
+use crate::colours::{self, text_on, DOT, INK, TEXT};
 use crate::failure::{quoted, usage, Failure};
+use crate::frame::{axes, fill, heading, Frame};
 use crate::outline::Outline;
 use crate::plan::{Label, Plan};
 use crate::scale::{current_range, Scale};
-use crate::svg::{fitted, text_width, Svg, SIZE};
+use crate::svg::{fitted, text_width, Svg, SIZE, SMALL};
 use shared::options::Args;
 use std::cmp::Ordering;
 
@@ -20,6 +21,8 @@ const CROWD: usize = 120;
 /// How far a change's mark reaches above the chart where changes are a crowd.
 const MARK: f64 = 6.0;
 
+/// The strip below the readings, which says the state of each run, takes so much of the height.
+const STRIP: f64 = 26.0;
 /// The strip of a crowd is divided into bins at least so wide, and into no more than keep the file small.
 const BIN: f64 = 2.0;
 const MOST_BINS: f64 = 600.0;
@@ -32,7 +35,6 @@ const NARROW: f64 = 1.8;
 /// The legend's sign and the gap behind it, in a usual legend and in a narrow one.
 const SIGN: [f64; 2] = [26.0, 16.0];
 const SIGN_GAP: [f64; 2] = [8.0, 5.0];
-const SMALL: f64 = 11.0;
 /// A usual legend with more lines is worse to read than one in columns.
 const MOST_LINES: f64 = 5.0;
 
@@ -95,7 +97,7 @@ pub fn picture(plan: &Plan, outline: &Outline, cost: u64, runs: &[Run], look: &L
         counted(changes.len(), "change")
     );
     let mut svg = Svg::new(look.width, look.height, look.title.as_ref().unwrap_or(&summary));
-    let mut frame = Frame::of(look);
+    let mut frame = Frame::of(look, STRIP);
     heading(&mut svg, &mut frame, look.title.as_deref(), &summary);
     let (least, most) = current_range(&plan.readings, runs);
     let beyond = plan.readings.iter().any(|reading| !(least..=most).contains(&f64::from(*reading)));
@@ -107,7 +109,7 @@ pub fn picture(plan: &Plan, outline: &Outline, cost: u64, runs: &[Run], look: &L
         outline,
     };
     chart.labels(&mut svg, plan);
-    chart.axes(&mut svg, &current(look));
+    axes(&mut svg, &chart.frame, [&chart.x, &chart.y], ["reading", &current(look)]);
     chart.changes(&mut svg, &changes);
     chart.readings(&mut svg, &plan.readings);
     chart.levels(&mut svg, runs);
@@ -121,55 +123,6 @@ fn current(look: &Look) -> String {
     let times = look.scale.filter(|scale| *scale > 1).map_or(String::new(), |scale| format!(" × {scale}"));
     let unit = look.unit.as_ref().map_or(String::new(), |unit| format!(" ({unit})"));
     format!("current{times}{unit}")
-}
-
-/// Where the parts of a picture stand.
-struct Frame {
-    /// Where title and legend begin; a narrow picture needs the place beside the chart for them.
-    margin: f64,
-    left: f64,
-    right: f64,
-    /// The first free place from above, and at last the top of the chart.
-    top: f64,
-    bottom: f64,
-    /// The strip below the readings that says which state each run has.
-    strip: [f64; 2],
-}
-
-impl Frame {
-    fn of(look: &Look) -> Frame {
-        let bottom = look.height - 90.0;
-        Frame {
-            margin: if look.width < 700.0 { 12.0 } else { 70.0 },
-            left: 70.0,
-            right: look.width - 20.0,
-            top: 26.0,
-            bottom,
-            strip: [bottom + 6.0, bottom + 26.0],
-        }
-    }
-
-    fn room(&self) -> f64 {
-        self.right - self.margin
-    }
-}
-
-/// The user's title with the summary below it, or the summary alone.
-fn heading(svg: &mut Svg, frame: &mut Frame, title: Option<&str>, summary: &str) {
-    let first = title.unwrap_or(summary);
-    // A summary is better small than cut; a title has to stand out from it.
-    let fits = title.is_some() || text_width(first, 16.0) <= frame.room();
-    let size = if fits { 16.0 } else { 12.0 };
-    svg.text_within([frame.margin, frame.top], size, frame.room(), &fill(TEXT), first);
-    if title.is_some() {
-        frame.top += 18.0;
-        svg.text_within([frame.margin, frame.top], 12.0, frame.room(), &fill(SMALL_TEXT), summary);
-    }
-    frame.top += 22.0;
-}
-
-fn fill(colour: &str) -> String {
-    format!("fill=\"{colour}\"")
 }
 
 /// What stands in front of a legend's text.
@@ -336,35 +289,6 @@ impl Chart<'_> {
     /// The boundaries p to q - 1 lie between the middles of readings p and q.
     fn window(&self, label: &Label) -> (f64, f64) {
         (self.x.place(f64::from(label.p) - 0.5), self.x.place(f64::from(label.q) - 0.5))
-    }
-
-    fn axes(&self, svg: &mut Svg, current: &str) {
-        let Frame {
-            left, right, top, bottom, ..
-        } = self.frame;
-        let strip = self.frame.strip[1];
-        let style = |anchor: &str| format!("text-anchor=\"{anchor}\" {}", fill(TEXT));
-        for value in self.y.ticks(((bottom - top) / 40.0).max(3.0) as usize) {
-            let y = self.y.place(value as f64);
-            svg.line([left, y, right, y], "stroke=\"#ccc\" stroke-width=\"0.6\"");
-            svg.text(left - 8.0, y + 4.5, &style("end"), &value.to_string());
-        }
-        let mut numbers = vec![1];
-        numbers.extend(self.x.ticks(((right - left) / 79.0) as usize).into_iter().filter(|number| *number > 1));
-        // A first step of 2 or 5 may stand too near to the 1.
-        let near = |number: i64| self.x.place(number as f64) - self.x.place(1.0) < 24.0;
-        numbers.retain(|number| *number == 1 || !near(*number));
-        for number in numbers {
-            let x = self.x.place(number as f64 - 0.5);
-            svg.line([x, strip, x, strip + 5.0], &format!("stroke=\"{INK}\""));
-            svg.text(x, strip + 20.0, &style("middle"), &number.to_string());
-        }
-        svg.rect([left, top, right, bottom], &format!("fill=\"none\" stroke=\"{INK}\""));
-        svg.text((left + right) / 2.0, strip + 44.0, &style("middle"), "reading");
-        let (middle, room) = ((top + bottom) / 2.0, bottom - top + 20.0);
-        let size = if text_width(current, SIZE) <= room { SIZE } else { SMALL };
-        let turned = format!("{} transform=\"rotate(-90 18 {middle:.1})\"", style("middle"));
-        svg.text_within([18.0, middle], size, room, &turned, current);
     }
 
     fn changes(&self, svg: &mut Svg, changes: &[&Run]) {

@@ -5,6 +5,9 @@ use shared::PENALTIES;
 use yeldaski::Refusal;
 
 pub const MAX_READINGS: usize = 4096;
+/// The most readings of a record for a moving window, and of the window itself. These are for messages: the proved library judges both.
+pub const MAX_RECORD: usize = 65_535;
+pub const MAX_WINDOW: usize = 1024;
 
 pub const KINDS: [&str; 5] = ["stay", "any", "up", "down", "abs"];
 

@@ -90,22 +90,24 @@ pub fn choose_labels(args: &Args, text: &mut Text, records: usize) {
 
 /// How a record is read: as the options say, and where they are silent, as the text reads its own.
 pub fn layout(args: &Args, text: &Text) -> Result<Layout, Failure> {
+    match (text.layout(), args.flag("column")) {
+        (Some(layout), _) => of_options(args, layout),
+        (None, true) => {
+            let units = text.units;
+            of_options(args, Layout { units, ..Layout::default() })
+        }
+        (None, false) => Err(usage(format!(
+            "{} reads its files in different ways; say --column for the records",
+            text.name
+        ))),
+    }
+}
+
+/// How a record is read: as the options say, and where they are silent, as a layout that was said of other files. A plan file says none.
+pub fn of_options(args: &Args, mut layout: Layout) -> Result<Layout, Failure> {
     let column = args.option("column").map(Column::of_option).transpose();
     let column = column.map_err(|why| usage(format!("--column: {why}")))?;
     let by_name = |layout: &Layout| matches!(layout.column, Some(Column::Name(_)));
-    let mut layout = match (text.layout(), &column) {
-        (Some(layout), _) => layout,
-        (None, Some(_)) => Layout {
-            units: text.units,
-            ..Layout::default()
-        },
-        (None, None) => {
-            return Err(usage(format!(
-                "{} reads its files in different ways; say --column for the records",
-                text.name
-            )))
-        }
-    };
     // The text speaks of its own files, so of this record it is only assumed.
     let inherited = match layout.header {
         Header::Yes => Header::Assumed,
@@ -156,14 +158,11 @@ pub fn pictures(wish: Option<&str>, words: &[String], records: &[String], text_p
         None => (vec![None; count], None),
         Some(wish) if is_out(wish) => {
             return Err(usage(
-                "find: the answer goes to standard output, so --plot has to name a file or a folder",
+                "--plot has to name a file or a folder: a picture is not written to standard output",
             ));
         }
         Some(wish) if several && Path::new(wish).is_file() => {
-            return Err(usage(format!(
-                "find: {} is a file; with several records --plot names a folder",
-                quoted(wish)
-            )));
+            return Err(usage(format!("{} is a file; with several records --plot names a folder", quoted(wish))));
         }
         Some(wish) if several => (in_one_folder(wish, records)?, Some(wish.to_string())),
         Some(wish) if Path::new(wish).is_dir() => {
@@ -184,7 +183,7 @@ fn in_one_folder(folder: &str, records: &[String]) -> Result<Vec<Option<String>>
         if let Some(other) = taken.insert(picture.clone(), record) {
             let [other, record, picture] = [other, record, &picture].map(quoted);
             return Err(usage(format!(
-                "find: {other} and {record} would both be drawn to {picture}; search them in two calls, with two folders"
+                "{other} and {record} would both be drawn to {picture}; search them in two calls, with two folders"
             )));
         }
         all.push(Some(picture));

@@ -32,13 +32,16 @@ impl Scale {
 
     /// Whole numbers on the axis in steps of 1, 2 or 5 times a power of ten, at most `count` of them.
     pub fn ticks(&self, count: usize) -> Vec<i64> {
-        let steps = (0..6).flat_map(|power| [1, 2, 5].map(|step| step * 10_i64.pow(power)));
-        let ticks = |step: i64| {
-            let first = (self.least / step as f64).ceil() as i64;
-            let last = (self.most / step as f64).floor() as i64;
-            (first..=last).map(|index| index * step).collect::<Vec<i64>>()
+        let mut steps = (0..18).flat_map(|power| [1, 2, 5].map(|step| step * 10_i64.pow(power)));
+        let ends = |step: i64| ((self.least / step as f64).ceil() as i64, (self.most / step as f64).floor() as i64);
+        let fits = |step: &i64| {
+            let (first, last) = ends(*step);
+            last - first < count as i64
         };
-        steps.map(ticks).find(|ticks| ticks.len() <= count).unwrap_or_default()
+        steps.find(fits).map_or(Vec::new(), |step| {
+            let (first, last) = ends(step);
+            (first..=last).map(|index| index * step).collect()
+        })
     }
 }
 

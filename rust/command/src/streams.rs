@@ -86,13 +86,46 @@ pub fn check_output(path: Option<&str>) -> Result<(), Failure> {
 
 /// Whether two names of outputs, which need not be there yet, are one place.
 pub fn same_place(a: &str, b: &str) -> bool {
-    let place = |path: &str| {
-        let path = Path::new(path);
-        let folder = path.parent().filter(|folder| !folder.as_os_str().is_empty()).unwrap_or(Path::new("."));
-        let new = || Some(fs::canonicalize(folder).ok()?.join(path.file_name()?));
-        fs::canonicalize(path).ok().or_else(new)
-    };
+    let place = |path: &str| destination(Path::new(path)).ok();
     !is_out(a) && place(a).is_some() && place(a) == place(b)
+}
+
+/// Where a name leads, also where nothing is there yet. A link to nothing leads to what it names.
+fn destination(path: &Path) -> io::Result<PathBuf> {
+    let mut path = path.to_path_buf();
+    // Linux follows no more links than this either.
+    for _ in 0..40 {
+        let (Some(name), Err(_)) = (path.file_name(), fs::canonicalize(&path)) else {
+            break;
+        };
+        let folder = path.parent().filter(|folder| !folder.as_os_str().is_empty()).unwrap_or(Path::new("."));
+        let folder = fs::canonicalize(folder)?;
+        match fs::read_link(&path) {
+            Ok(link) => path = folder.join(link),
+            Err(_) => return Ok(folder.join(name)),
+        }
+    }
+    fs::canonicalize(path)
+}
+
+/// Whether an output could be written now, for a call that works long before it writes: all of that would be lost. What is there stays.
+pub fn check_writable(path: Option<&str>) -> Result<(), Failure> {
+    let Some(path) = path.filter(|path| !is_out(path)) else {
+        return Ok(());
+    };
+    try_to_write(Path::new(path)).map_err(|error| cannot_write(path, error))
+}
+
+fn try_to_write(path: &Path) -> io::Result<()> {
+    match fs::metadata(path) {
+        Ok(former) if former.is_dir() => return File::options().write(true).open(path).map(|_| ()),
+        // A pipe would wait here for its reader.
+        Ok(former) if !former.is_file() || path.starts_with("/dev") || path.starts_with("/proc") => return Ok(()),
+        Ok(former) if former.permissions().readonly() => return Err(ErrorKind::PermissionDenied.into()),
+        _ => {}
+    }
+    let (temporary, _) = temporary_beside(&destination(path)?)?;
+    fs::remove_file(temporary)
 }
 
 /// Whether a name stands for standard output. Its names as a file are taken so too: what is behind them may be a file that others write to as well.
@@ -114,7 +147,11 @@ pub fn write(path: Option<&str>, bytes: &[u8]) -> Result<(), Failure> {
         Some(path) => (path, replace(Path::new(path), bytes)),
         None => ("standard output", write_out(bytes)),
     };
-    result.map_err(|error| usage(format!("cannot write {}: {error}", quoted(name))))
+    result.map_err(|error| cannot_write(name, error))
+}
+
+fn cannot_write(name: &str, error: io::Error) -> Failure {
+    usage(format!("cannot write {}: {error}", quoted(name)))
 }
 
 /// Writes a temporary file in the same folder and gives it the name, so that a file is never left half written. A link stays a link; what is no

@@ -2,6 +2,8 @@
 
 /// The font size of most texts.
 pub const SIZE: f64 = 13.0;
+/// That of texts with little room.
+pub const SMALL: f64 = 11.0;
 
 pub struct Svg {
     text: String,

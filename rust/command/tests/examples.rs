@@ -67,7 +67,7 @@ fn part_of_the_readme(heading: &str) -> String {
     part.split("\n## ").next().expect("its end").to_string()
 }
 
-/// The blocks of the README's part "Your own CSV" are a plan text, a command and what it shows.
+/// The blocks of the README's part "Your own CSV" are a plan text, and two commands with what they show.
 #[test]
 fn first_steps_of_the_readme() {
     let readme = String::from_utf8(stored("../README.md")).expect("text");
@@ -79,8 +79,8 @@ fn first_steps_of_the_readme() {
         .next()
         .expect("its end");
     let blocks: Vec<&str> = part.split("```\n").skip(1).step_by(2).collect();
-    let [text, shown] = blocks[..] else { panic!("{} blocks", blocks.len()) };
-    let (command, table) = shown.split_once('\n').expect("a command and a table");
+    let [text, shown @ ..] = &blocks[..] else { panic!("no blocks") };
+    assert_eq!(shown.len(), 2);
     let folder = folder("first_steps");
     fs::write(folder.join("belt.txt"), text).expect("file");
     fs::write(
@@ -88,9 +88,12 @@ fn first_steps_of_the_readme() {
         "time,current\n1,31\n2,30\n3,31\n4,42\n5,43\n6,42\n7,41\n8,42\n",
     )
     .expect("file");
-    let args: Vec<&str> = command.strip_prefix("$ yeldaski ").expect("a command").split(' ').collect();
-    let done = run_in(&folder, &args, b"");
-    assert_eq!((done.status, done.text().as_str()), (0, table), "{}", done.err);
+    for block in shown {
+        let (command, table) = block.split_once('\n').expect("a command and a table");
+        let args: Vec<&str> = command.strip_prefix("$ yeldaski ").expect("a command").split(' ').collect();
+        let done = run_in(&folder, &args, b"");
+        assert_eq!((done.status, done.text().as_str()), (0, table), "{}", done.err);
+    }
     assert!(folder.join("monday.svg").exists());
 }
 

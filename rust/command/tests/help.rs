@@ -4,7 +4,19 @@ use common::{folder, program, run};
 use std::fs;
 use std::process::Command;
 
-const COMMANDS: [&str; 10] = ["find", "make", "run", "show", "verify", "check", "plot", "help", "man", "completion"];
+const COMMANDS: [&str; 11] = [
+    "find",
+    "windows",
+    "make",
+    "run",
+    "show",
+    "verify",
+    "check",
+    "plot",
+    "help",
+    "man",
+    "completion",
+];
 
 /// The long options in a help text.
 fn options(help: &str) -> Vec<String> {

@@ -15,6 +15,7 @@ fn help_and_version() {
         &["show", "--help"],
         &["check", "x", "--help"],
         &["plot", "--help"],
+        &["windows", "--help"],
     ] {
         let done = run(args, b"");
         assert_eq!((done.status, done.err.as_str()), (0, ""), "{args:?}");
