@@ -25,6 +25,7 @@ use Rattle.model.specs.Refusals.{searchNumber}
 use Rattle.model.specs.Result.{Result, found, refused, whole, resultOf}
 use Rattle.model.specs.Demand3.{demand3}
 use Rattle.search.specs.Search.{workWords, searchResult}
+use Rattle.search.specs.Lent.{lent}
 use Rattle.search.specs.Right.{search-early}
 use Rattle.answers.specs.Runs.{lastRefusal, isRefusal, runFits, whole as wholeOf, levelFits, numberAt, wholeAt, lastBefore, runOk, runsOk}
 use Rattle.answers.specs.Rules.{level-fits, runs-none, runs-more, last-next, last-first}
@@ -132,7 +133,7 @@ module _ (P : Plan) (zs : List ℤ) (words room : ℕ) where
   early n e h = subst Writable (sym (search-early P zs words room n (sym e) h)) (refusal-is n h (early-has (λ (k : ℕ). leb k lastRefusal) n refl (subst (λ (k : ℕ). isEarly k ≡ true) e (search-is-early P (length zs)))))
 
   late : searchNumber P (length zs) ≡ 0 → mag (P .lo) < 32768 → mag (P .hi) < 32768 → Writable (searchResult P zs words room)
-  unfolding searchResult isRefusal
+  unfolding searchResult lent isRefusal
   late e low high = rw (eq-eqb (searchNumber P (length zs)) 0 e) (go (ltb words (workWords P)) (ltb room (5 * length zs)))
     where
       looked : ((c : ℕ) × (ns : List ℤ) × (resultOf P zs whole ≡ found c ns)) ⊎ (resultOf P zs whole ≡ refused 16) → Writable (resultOf P zs whole)

@@ -1,3 +1,4 @@
+pub mod Lent
 pub mod Search
 pub mod Cheapest
 pub mod Way

@@ -1,17 +1,15 @@
--- What a search and a cost at a point answer: the third condition of acceptance of the scope paper (01), whose sentences are quoted, as one claim with one proof
--- (`Right`, `right`). The results are those of the calls' promises, so that what is lent counts by its length alone, whatever it held before.
+-- What a search and a cost at a point answer: the third condition of acceptance of the scope paper (01), whose sentences are quoted, as one claim
+-- with one proof (`Right`, `right`). The results are those of the calls' promises, so that what is lent counts by its length alone, whatever it held before.
 -- Allowed, cost and order are those of `Model`. Assumes nothing.
 use mathlib.Core.Path.{_≡_, refl, sym, _∙_, ap}
 use mathlib.Core.Logic.{_⊎_, _↔_}
 use mathlib.Core.List.{List, []}
-use mathlib.Core.Bool.{Bool, true, false, cond}
+use mathlib.Core.Bool.{true}
 use Prim.Native.Nat.{ℕ, _*_, _/_, _≤_, _<_}
 use native.Mathlib.Omega.{arith}
-use lib.Dec.{eqb, ltb}
 use lib.IntN.{ℤ}
 use lib.ListN.{length, take, drop}
 use lib.Seq.{length-take-le, take-at}
-use borrow.Author.Tests.{eq-eqb, ne-eqb, eqb-true, lt-ltb, le-ltb, ltb-false}
 use Rattle.plan.specs.declared.Plan.{Plan}
 use Rattle.model.specs.Segmentation.{Seg, readings, lastLevel}
 use Rattle.model.specs.Model.{cost, lastState, Allowed, LeastCost, First}
@@ -21,6 +19,7 @@ use Rattle.model.specs.Refusals.{searchNumber, pointNumber}
 use Rattle.model.specs.Checked.{search-not-16, point-not-16}
 use Rattle.model.specs.Result.{Result, found, refused, whole, point, resultOf}
 use Rattle.model.specs.Demand3.{NoneAllowed, demand3, cost-take}
+use Rattle.search.specs.Lent.{lent-early, lent-short, lent-narrow, lent-looks, lent-found}
 use Rattle.search.specs.Search.{workWords, searchResult, pointResult, foundOf, costOf, foundResult, costResult, runsAfter, looked}
 
 -- ---- demand 3
@@ -66,60 +65,47 @@ pub record Right (P : Plan) (zs : List ℤ) (s : ℕ) (m : ℤ) (words room : �
 module _ (P : Plan) (zs : List ℤ) (words room : ℕ) where
   pub search-early : (n : ℕ) → n ≡ searchNumber P (length zs) → (n ≡ 0 → ⊥) → searchResult P zs words room ≡ refused n
   unfolding searchResult
-  search-early n e h = rw (← e, ne-eqb n 0 h) refl
+  search-early = lent-early refused (searchNumber P (length zs)) words (workWords P) room (5 * length zs) (resultOf P zs whole)
 
   module _ (accepts : searchNumber P (length zs) ≡ 0) where
     pub search-short : words < workWords P → searchResult P zs words room ≡ refused 14
     unfolding searchResult
-    search-short h = rw (eq-eqb (searchNumber P (length zs)) 0 accepts, lt-ltb words (workWords P) h) refl
+    search-short = lent-short refused (searchNumber P (length zs)) words (workWords P) room (5 * length zs) (resultOf P zs whole) accepts
 
     pub search-narrow : workWords P ≤ words → room < 5 * length zs → searchResult P zs words room ≡ refused 15
     unfolding searchResult
-    search-narrow h k = rw (eq-eqb (searchNumber P (length zs)) 0 accepts, le-ltb words (workWords P) h, lt-ltb room (5 * length zs) k) refl
+    search-narrow = lent-narrow refused (searchNumber P (length zs)) words (workWords P) room (5 * length zs) (resultOf P zs whole) accepts
 
     pub search-looks : workWords P ≤ words → 5 * length zs ≤ room → searchResult P zs words room ≡ resultOf P zs whole
     unfolding searchResult
-    search-looks h k = rw (eq-eqb (searchNumber P (length zs)) 0 accepts, le-ltb words (workWords P) h, le-ltb room (5 * length zs) k) refl
+    search-looks = lent-looks refused (searchNumber P (length zs)) words (workWords P) room (5 * length zs) (resultOf P zs whole) accepts
+
+  -- an answer, and 16, are the model's, and no earlier refusal applies
+  search-model : (r : Result) → looked r ≡ true → searchResult P zs words room ≡ r → SearchAccepts P (length zs) words room × (resultOf P zs whole ≡ r)
+  unfolding searchResult
+  search-model = lent-found refused (searchNumber P (length zs)) words (workWords P) room (5 * length zs) (resultOf P zs whole) looked (λ k. refl) (search-not-16 P (length zs))
 
 module _ (P : Plan) (zs : List ℤ) (s : ℕ) (m : ℤ) (words : ℕ) where
   pub point-early-is : (n : ℕ) → n ≡ pointNumber P (length zs) s m → (n ≡ 0 → ⊥) → pointResult P zs s m words ≡ refused n
   unfolding pointResult
-  point-early-is n e h = rw (← e, ne-eqb n 0 h) refl
+  point-early-is = lent-early refused (pointNumber P (length zs) s m) words (workWords P) 0 0 (resultOf P zs (point s m))
 
   module _ (accepts : pointNumber P (length zs) s m ≡ 0) where
     pub point-short-is : words < workWords P → pointResult P zs s m words ≡ refused 14
     unfolding pointResult
-    point-short-is h = rw (eq-eqb (pointNumber P (length zs) s m) 0 accepts, lt-ltb words (workWords P) h) refl
+    point-short-is = lent-short refused (pointNumber P (length zs) s m) words (workWords P) 0 0 (resultOf P zs (point s m)) accepts
 
     pub point-looks : workWords P ≤ words → pointResult P zs s m words ≡ resultOf P zs (point s m)
     unfolding pointResult
-    point-looks h = rw (eq-eqb (pointNumber P (length zs) s m) 0 accepts, le-ltb words (workWords P) h) refl
+    point-looks h = lent-looks refused (pointNumber P (length zs) s m) words (workWords P) 0 0 (resultOf P zs (point s m)) accepts h (omega arith)
 
--- ---- the proof
-
--- an answer, and 16, are the model's, and no earlier refusal applies
-module _ (P : Plan) (zs : List ℤ) (words room : ℕ) where
-  search-model : (r : Result) → looked r ≡ true → searchResult P zs words room ≡ r → SearchAccepts P (length zs) words room × (resultOf P zs whole ≡ r)
-  unfolding searchResult
-  search-model r k e = go (eqb (searchNumber P (length zs)) 0) refl (ltb words (workWords P)) refl (ltb room (5 * length zs)) refl e
-    where
-      go : (a : Bool) → eqb (searchNumber P (length zs)) 0 ≡ a → (b : Bool) → ltb words (workWords P) ≡ b → (c : Bool) → ltb room (5 * length zs) ≡ c
-          → cond a (cond b (refused 14) (cond c (refused 15) (resultOf P zs whole))) (refused (searchNumber P (length zs))) ≡ r → SearchAccepts P (length zs) words room × (resultOf P zs whole ≡ r)
-      go true ea false eb false ec q = ((eqb-true (searchNumber P (length zs)) 0 ea, ltb-false words (workWords P) eb, ltb-false room (5 * length zs) ec), q)
-      go true ea false eb true ec q = absurd (omega (arith, eqb-true 15 16 (ap looked q ∙ k)))
-      go true ea true eb c ec q = absurd (omega (arith, eqb-true 14 16 (ap looked q ∙ k)))
-      go false ea b eb c ec q = absurd (search-not-16 P (length zs) (eqb-true (searchNumber P (length zs)) 16 (ap looked q ∙ k)))
-
-module _ (P : Plan) (zs : List ℤ) (s : ℕ) (m : ℤ) (words : ℕ) where
   point-model : (r : Result) → looked r ≡ true → pointResult P zs s m words ≡ r → PointAccepts P (length zs) s m words × (resultOf P zs (point s m) ≡ r)
   unfolding pointResult
-  point-model r k e = go (eqb (pointNumber P (length zs) s m) 0) refl (ltb words (workWords P)) refl e
-    where
-      go : (a : Bool) → eqb (pointNumber P (length zs) s m) 0 ≡ a → (b : Bool) → ltb words (workWords P) ≡ b
-          → cond a (cond b (refused 14) (resultOf P zs (point s m))) (refused (pointNumber P (length zs) s m)) ≡ r → PointAccepts P (length zs) s m words × (resultOf P zs (point s m) ≡ r)
-      go true ea false eb q = ((eqb-true (pointNumber P (length zs) s m) 0 ea, ltb-false words (workWords P) eb), q)
-      go true ea true eb q = absurd (omega (arith, eqb-true 14 16 (ap looked q ∙ k)))
-      go false ea b eb q = absurd (point-not-16 P (length zs) s m (eqb-true (pointNumber P (length zs) s m) 16 (ap looked q ∙ k)))
+  point-model r k e =
+      let q = lent-found refused (pointNumber P (length zs) s m) words (workWords P) 0 0 (resultOf P zs (point s m)) looked (λ k. refl) (point-not-16 P (length zs) s m) r k e in
+      ((q .0 .0, q .0 .1), q .1)
+
+  -- ---- the proof
 
   least-of : (c : ℕ) (ns : List ℤ) → pointResult P zs s m words ≡ found c ns → LeastCost P zs (length zs) s m c
   least-of c ns e = demand3 P zs .point-found s m c ns (point-model (found c ns) refl e .1) .0
@@ -127,7 +113,7 @@ module _ (P : Plan) (zs : List ℤ) (s : ℕ) (m : ℤ) (words : ℕ) where
   none-of : (pointResult P zs s m words ≡ refused 16) ↔ (PointAccepts P (length zs) s m words × NoneEnds P (length zs) s m)
   none-of = (
     λ e. let q = point-model (refused 16) refl e in (q .0, demand3 P zs .point-16 s m (q .1) .1),
-    λ q. point-looks P zs s m words (q .0 .0) (q .0 .1) ∙ demand3 P zs .16-point s m (q .0 .0) (q .1),
+    λ q. point-looks (q .0 .0) (q .0 .1) ∙ demand3 P zs .16-point s m (q .0 .0) (q .1),
   )
 
 pub right : (P : Plan) (zs : List ℤ) (s : ℕ) (m : ℤ) (words room : ℕ) → Right P zs s m words room

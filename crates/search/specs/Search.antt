@@ -2,13 +2,14 @@
 use mathlib.Core.List.{List, [], _++_}
 use mathlib.Core.Bool.{Bool, true, cond}
 use Prim.Native.Nat.{ℕ, _+_, _*_, _/_}
-use lib.Dec.{eqb, ltb}
+use lib.Dec.{eqb}
 use lib.IntN.{ℤ}
 use lib.ListN.{length, take, drop, replicate}
 use Rattle.plan.specs.declared.Plan.{Plan}
 use Rattle.model.specs.Model.{width}
 use Rattle.model.specs.Refusals.{searchNumber, pointNumber}
 use Rattle.model.specs.Result.{Result, found, refused, whole, point, resultOf}
+use Rattle.search.specs.Lent.{lent}
 use Rattle.search.specs.declared.Found.{Found}
 use Rattle.search.specs.declared.Found.the-variants.{Segmentation, Refused}
 use Rattle.search.specs.declared.Cost.{Cost}
@@ -20,17 +21,11 @@ workWords P = 48 * (P .states * width P)
 
 -- "Search: 11, 9, 13, 14, 15, 16": the numbers before 14, then what is lent, then the model's answer
 unfoldable pub searchResult : Plan → List ℤ → ℕ → ℕ → Result
-searchResult P zs words room =
-    cond (eqb (searchNumber P (length zs)) 0)
-    (cond (ltb words (workWords P)) (refused 14) (cond (ltb room (5 * length zs)) (refused 15) (resultOf P zs whole)))
-    (refused (searchNumber P (length zs)))
+searchResult P zs words room = lent refused (searchNumber P (length zs)) words (workWords P) room (5 * length zs) (resultOf P zs whole)
 
--- "Cost at a point: 11, 9, state 5, level 4, 14, 16"
+-- "Cost at a point: 11, 9, state 5, level 4, 14, 16": no list, so that none is needed
 unfoldable pub pointResult : Plan → List ℤ → ℕ → ℤ → ℕ → Result
-pointResult P zs s m words =
-    cond (eqb (pointNumber P (length zs) s m) 0)
-    (cond (ltb words (workWords P)) (refused 14) (resultOf P zs (point s m)))
-    (refused (pointNumber P (length zs) s m))
+pointResult P zs s m words = lent refused (pointNumber P (length zs) s m) words (workWords P) 0 0 (resultOf P zs (point s m))
 
 -- the answers as values: the paper's number, or the cost and how many runs there are
 abbrev pub foundOf : Result → Found

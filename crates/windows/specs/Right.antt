@@ -3,14 +3,12 @@
 use mathlib.Core.Path.{_≡_, refl, sym, _∙_, ap}
 use mathlib.Core.Logic.{_⊎_, inl, inr, ⊎-elim, _↔_}
 use mathlib.Core.List.{List}
-use mathlib.Core.Bool.{Bool, true, false, cond}
+use mathlib.Core.Bool.{true}
 use Prim.Native.Nat.{ℕ, suc, _+_, _-_, _*_, _≤_, _<_}
 use native.Mathlib.Omega.{arith}
-use lib.Dec.{eqb, ltb}
 use lib.IntN.{ℤ}
 use lib.ListN.{length, getD, take, drop}
 use lib.Seq.{take-append-seam}
-use borrow.Author.Tests.{eq-eqb, ne-eqb, eqb-true, lt-ltb, le-ltb, ltb-false}
 use Rattle.plan.specs.declared.Plan.{Plan}
 use Rattle.model.specs.Segmentation.{Seg}
 use Rattle.model.specs.Model.{cost, First}
@@ -20,6 +18,7 @@ use Rattle.model.specs.Result.{found, refused, whole, resultOf}
 use Rattle.model.specs.Demand3.{NoneAllowed, demand3}
 use Rattle.model.specs.Window.{Costs, costList, noCosts, partAt, starts, windowsOf, costsTo}
 use Rattle.model.specs.WindowLaws.{Each, part-length, costs-each, costs-refused, at-none, costs-else}
+use Rattle.search.specs.Lent.{lent-early, lent-short, lent-narrow, lent-looks, lent-found}
 use Rattle.search.specs.Search.{workWords, searchResult}
 use Rattle.search.specs.Right.{search-looks}
 use Rattle.windows.specs.Windows.{windowResult, filledOf, filledResult, costsAfter, costsLooked}
@@ -53,35 +52,27 @@ pub record Right (P : Plan) (zs : List ℤ) (w words room : ℕ) : Type 0 where
 module _ (P : Plan) (zs : List ℤ) (w words room : ℕ) where
   pub window-early : (n : ℕ) → n ≡ windowNumber P (length zs) w → (n ≡ 0 → ⊥) → windowResult P zs w words room ≡ noCosts n
   unfolding windowResult
-  window-early n e h = rw (← e, ne-eqb n 0 h) refl
+  window-early = lent-early noCosts (windowNumber P (length zs) w) words (workWords P) room (starts (length zs) w) (windowsOf P zs w)
 
   module _ (accepts : windowNumber P (length zs) w ≡ 0) where
     pub window-short : words < workWords P → windowResult P zs w words room ≡ noCosts 14
     unfolding windowResult
-    window-short h = rw (eq-eqb (windowNumber P (length zs) w) 0 accepts, lt-ltb words (workWords P) h) refl
+    window-short = lent-short noCosts (windowNumber P (length zs) w) words (workWords P) room (starts (length zs) w) (windowsOf P zs w) accepts
 
     pub window-narrow : workWords P ≤ words → room < starts (length zs) w → windowResult P zs w words room ≡ noCosts 15
     unfolding windowResult
-    window-narrow h k = rw (eq-eqb (windowNumber P (length zs) w) 0 accepts, le-ltb words (workWords P) h, lt-ltb room (starts (length zs) w) k) refl
+    window-narrow = lent-narrow noCosts (windowNumber P (length zs) w) words (workWords P) room (starts (length zs) w) (windowsOf P zs w) accepts
 
     pub window-looks : workWords P ≤ words → starts (length zs) w ≤ room → windowResult P zs w words room ≡ windowsOf P zs w
     unfolding windowResult
-    window-looks h k = rw (eq-eqb (windowNumber P (length zs) w) 0 accepts, le-ltb words (workWords P) h, le-ltb room (starts (length zs) w) k) refl
+    window-looks = lent-looks noCosts (windowNumber P (length zs) w) words (workWords P) room (starts (length zs) w) (windowsOf P zs w) accepts
 
--- ---- the proof
-
-module _ (P : Plan) (zs : List ℤ) (w words room : ℕ) where
   -- costs, and 16, are the model's, and no earlier refusal applies
   window-model : (r : Costs) → costsLooked r ≡ true → windowResult P zs w words room ≡ r → WindowAccepts P (length zs) w words room × (windowsOf P zs w ≡ r)
   unfolding windowResult
-  window-model r k e = go (eqb (windowNumber P (length zs) w) 0) refl (ltb words (workWords P)) refl (ltb room (starts (length zs) w)) refl e
-    where
-      go : (a : Bool) → eqb (windowNumber P (length zs) w) 0 ≡ a → (b : Bool) → ltb words (workWords P) ≡ b → (c : Bool) → ltb room (starts (length zs) w) ≡ c
-          → cond a (cond b (noCosts 14) (cond c (noCosts 15) (windowsOf P zs w))) (noCosts (windowNumber P (length zs) w)) ≡ r → WindowAccepts P (length zs) w words room × (windowsOf P zs w ≡ r)
-      go true ea false eb false ec q = ((eqb-true (windowNumber P (length zs) w) 0 ea, ltb-false words (workWords P) eb, ltb-false room (starts (length zs) w) ec), q)
-      go true ea false eb true ec q = absurd (omega (arith, eqb-true 15 16 (ap costsLooked q ∙ k)))
-      go true ea true eb c ec q = absurd (omega (arith, eqb-true 14 16 (ap costsLooked q ∙ k)))
-      go false ea b eb c ec q = absurd (window-not-16 P (length zs) w (eqb-true (windowNumber P (length zs) w) 16 (ap costsLooked q ∙ k)))
+  window-model = lent-found noCosts (windowNumber P (length zs) w) words (workWords P) room (starts (length zs) w) (windowsOf P zs w) costsLooked (λ k. refl) (window-not-16 P (length zs) w)
+
+  -- ---- the proof
 
   module _ (h : windowNumber P (length zs) w ≡ 0) where
     A : AcceptedWindow P (length zs) w
@@ -132,7 +123,7 @@ module _ (P : Plan) (zs : List ℤ) (w words room : ℕ) where
     alike = λ h a b k l never. rw (part-length zs w b (within h b l)) (rw (part-length zs w a (within h a k)) at never);
     none = (
       λ e. let q = window-model (noCosts 16) refl e in (q .0, none-of (q .0 .0) (q .1)),
-      λ q. window-looks P zs w words room (q .0 .0) (q .0 .1) (q .0 .2) ∙ of-none (q .0 .0) (q .1),
+      λ q. window-looks (q .0 .0) (q .0 .1) (q .0 .2) ∙ of-none (q .0 .0) (q .1),
     );
     each-none = λ e a k numbers r.
         let (q, m) = window-model (noCosts 16) refl e in
@@ -141,7 +132,7 @@ module _ (P : Plan) (zs : List ℤ) (w words room : ℕ) where
   }
     where
       looks : WindowAccepts P (length zs) w words room → windowResult P zs w words room ≡ windowsOf P zs w
-      looks q = window-looks P zs w words room (q .0) (q .1) (q .2)
+      looks q = window-looks (q .0) (q .1) (q .2)
 
 -- ---- the answers tell the results
 

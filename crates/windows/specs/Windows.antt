@@ -1,24 +1,22 @@
 -- What a moving window answers, and what becomes of the lists that it is lent. The quoted words are those of ticket 1 of the change requests (02).
 -- Assumes nothing.
 use mathlib.Core.List.{List, _++_}
-use mathlib.Core.Bool.{Bool, true, cond}
+use mathlib.Core.Bool.{Bool, true}
 use Prim.Native.Nat.{ℕ}
-use lib.Dec.{eqb, ltb}
+use lib.Dec.{eqb}
 use lib.IntN.{ℤ}
 use lib.ListN.{length, take, drop}
 use Rattle.plan.specs.declared.Plan.{Plan}
 use Rattle.model.specs.Refusals.{windowNumber}
 use Rattle.model.specs.Window.{Costs, costList, noCosts, starts, windowsOf}
+use Rattle.search.specs.Lent.{lent}
 use Rattle.search.specs.Search.{workWords, wordsLeft}
 use Rattle.windows.specs.declared.Filled.{Filled}
 use Rattle.windows.specs.declared.Filled.the-variants.{Starts, Refused}
 
 -- "checked in this order after 11 and 9 and before 14, 15 (list too short) and 16": the numbers before 14, then what is lent, then the model's costs
 unfoldable pub windowResult : Plan → List ℤ → ℕ → ℕ → ℕ → Costs
-windowResult P zs w words room =
-    cond (eqb (windowNumber P (length zs) w) 0)
-    (cond (ltb words (workWords P)) (noCosts 14) (cond (ltb room (starts (length zs) w)) (noCosts 15) (windowsOf P zs w)))
-    (noCosts (windowNumber P (length zs) w))
+windowResult P zs w words room = lent noCosts (windowNumber P (length zs) w) words (workWords P) room (starts (length zs) w) (windowsOf P zs w)
 
 -- the answer as a value: the paper's number, or how many costs there are
 abbrev pub filledOf : Costs → Filled
