@@ -9,6 +9,9 @@
  * An answer file is  81 cost, 82 one per run  or  83 a refusal number  alone. Each field is a tag (1 byte), the length of the body (2 bytes) and
  * the body; numbers are big-endian.
  *
+ * A label (p, q, c) speaks of the boundaries p to q - 1, boundary i lying between readings i and i + 1. With c from 0 to 7 exactly c of them are
+ * changes (edges of kind 1 to 4); with 8 exactly one is, and it has kind 2 (up); with 9 exactly one is, and it has kind 3 (down).
+ *
  * A run is five numbers: first reading, last reading (both from 1), state, level, number of the edge that enters it (255 for the first run).
  *
  * Refusals (0 means none). "Plan reader" below stands for what can be wrong in a plan file: fields are read in turn, the first refused field ends
@@ -22,13 +25,13 @@
  *      5  S not 1 to 8, an empty mask, a mask bit at or above S, or a named state not below S
  *      6  edge state not below S, kind above 4, gap above 1,023 or set for kind 0 or 1, class above 15
  *      7  same from, to and kind as an earlier edge
- *      8  p = 0, q <= p, q above 4,096 or c above 1
+ *      8  p = 0, q <= p, q above 4,096 or c above 9
  *      9  no readings or more than 4,096; for a moving window more than 65,535
  *     10  a 33rd edge or a 65th label
  *     11  a plan that is not sealed, or a change to a sealed one (never given here: the plan of a file is always sealed)
  *     12  label starts before the earlier one's q
  *     13  a label's q above n
- *     14  workspace under 48 * S * L words, S the count of states, L = hi - lo + 1
+ *     14  workspace under 192 * S * L words of 64 bits, S the count of states, L = hi - lo + 1
  *     15  a buffer under 5 * n run numbers (for the answer reader 5 a run read), or too short for the bytes, readings or costs to be written
  *     16  no allowed segmentation exists; for a cost at a point, none that may count ends in the named state at the named level
  *     17  answer file: runs that do not join from reading 1 on, last < first, last above 4,096, state not 0 to 7, edge not 0 to 31 (255 in the
@@ -62,7 +65,7 @@ typedef struct {
 } yeldaski_reply;
 
 /* Words of workspace for a search, a cost at a point or a moving window, for 1 to 8 states and 1 to 1,024 levels. */
-#define YELDASKI_WORDS(states, levels) ((size_t)48 * (states) * (levels))
+#define YELDASKI_WORDS(states, levels) ((size_t)192 * (states) * (levels))
 
 /* Decodes the readings of a plan file. count = how many.
  * Refuses: plan reader, 15.
@@ -79,13 +82,13 @@ yeldaski_outcome yeldaski_write_plan(const uint8_t *file, size_t file_len, const
  * the file are not looked at. cost = its cost, count = its runs.
  * Refuses: plan reader, 9, 13, 14, 15 (runs_len under 5 * readings_len), 16.
  * runs: on success its first 5 * count numbers are the runs and the rest stays; on refusal all of it stays.
- * workspace: on success and after 16 its first 48 * S * L words are zero and the rest stays; after any other refusal all of it stays. */
+ * workspace: on success and after 16 its first 192 * S * L words are zero and the rest stays; after any other refusal all of it stays. */
 yeldaski_outcome yeldaski_search(const uint8_t *file, size_t file_len, const int16_t *readings, size_t readings_len, uint64_t *workspace,
                                  size_t workspace_len, int32_t *runs, size_t runs_len);
 
 /* The least cost of the segmentations of `readings` that end in the named state at the named level. cost = this cost, count = 0. The end mask is
  * ignored. Of the labels (p, q, c) those with q up to the last reading hold; one that is still open there (p before it, q behind it) allows at
- * most c changes so far; later ones are ignored.
+ * most c changes so far for c up to 7, and at most one for 8 and 9, which then has kind 2 (up) or 3 (down); later ones are ignored.
  * Refuses: plan reader, 9, 5 (state), 4 (level), 14, 16.
  * workspace: as with yeldaski_search. */
 yeldaski_outcome yeldaski_point(const uint8_t *file, size_t file_len, const int16_t *readings, size_t readings_len, uint8_t state,

@@ -11,7 +11,7 @@ use lib.ListN.{length}
 use Rattle.integers.specs.Rep.{le-or-lt}
 use Rattle.plan.specs.declared.Plan.{Plan}
 use Rattle.model.specs.Model.{width, inSet}
-use Rattle.model.specs.Labels.{counts, usedAt, used-most}
+use Rattle.model.specs.Labels.{labelOn, counts, usedAt, used-most}
 use Rattle.model.specs.Least.{Upto}
 use Rattle.model.specs.Index.{noCost}
 use Rattle.model.specs.Held.{Table, minBelow, min-none, penaltyMost}
@@ -172,7 +172,7 @@ module _ {P : Plan} {zs : List ℤ} {g : Shape} (a : Task P zs g) {t cur : ℕ} 
 
   pub layer-readable : cur ≤ placeMost → t ≤ 4096 → Readable (usedAt P t) cur g ws
   layer-readable h few = record {
-    few = used-most P (a .ready .plan) t;
+    few = used-most (labelOn P t);
     small = shape-small a;
     some = some-levels a;
     place = h;

@@ -1,22 +1,22 @@
 -- Cases of a boundary's definitions, over plain values. Assumes nothing.
-use mathlib.Core.Path.{_≡_, refl, sym, _∙_, ap}
+use mathlib.Core.Path.{_≡_, refl, _∙_, ap}
 use mathlib.Core.Option.{Option, none, some}
 use mathlib.Core.Logic.{inr}
-use mathlib.Core.Bool.{Bool, true, false, _&&_, cond}
+use mathlib.Core.Bool.{Bool, true, false, cond}
 use mathlib.Core.List.{List}
 use Prim.Native.Nat.{ℕ, zero, suc, _+_, _-_, _≤_, _<_}
 use native.Mathlib.Omega.{arith}
 use native.Mathlib.Numerals.{add-one}
-use lib.Dec.{eqb, leb, ltb}
+use lib.Dec.{eqb, leb}
 use lib.ListN.{getD}
-use borrow.Author.Tests.{eq-eqb, ne-eqb}
+use borrow.Author.Tests.{eq-eqb, ne-eqb, le-leb, lt-leb}
 use Rattle.plan.specs.declared.Plan.{Plan}
 use Rattle.plan.specs.declared.Label.{Label}
 use Rattle.plan.specs.declared.Edge.{Edge}
 use Rattle.plan.specs.declared.Kind.{Kind}
-use Rattle.plan.specs.declared.Kind.the-variants.{Stay, Any, Up, Down, Abs}
 use Rattle.plan.specs.Build.{noLabel}
-use Rattle.model.specs.Model.{labelAt, changeOf, within, markOf, need}
+use Rattle.model.specs.Model.{labelAt, changeOf, upOf, downOf, within, need, askedOf}
+use Rattle.model.specs.Marks.{markOf, mark-low}
 use Rattle.model.specs.Checked.{Checked}
 use Rattle.model.specs.Labels.{covering, labelOn, used, usedAt, used-most, counts, countAfter, countBefore, labelTest, within-out}
 use Rattle.labels.specs.declared.Cover.{Cover}
@@ -71,20 +71,56 @@ pub used-free : (on : Cover) → on ≡ Free → 1 ≡ used (labelOf on)
 unfolding used
 used-free on e = rw e refl
 
-pub used-by : (on : Cover) (l : Label) → on ≡ By l → l .c + 1 ≡ used (labelOf on)
-unfolding used need
-used-by on l e = rw e (add-one (l .c))
+pub used-by : (on : Cover) (l : Label) (n : ℕ) → on ≡ By l → n ≡ need l → n + 1 ≡ used (labelOf on)
+unfolding used
+used-by on l n e h = rw (e, h) (add-one (need l))
 
-pub used-here : (P : Plan) (t : ℕ) (o : Option Label) (n : ℕ) → Checked P → o ≡ labelOn P t → n ≡ used o → (n ≡ usedAt P t) × (n ≤ counts)
-used-here P t o n ch e h = let q : n ≡ usedAt P t = h ∙ ap used e in (q, omega (arith, q, used-most P ch t))
+pub used-here : (P : Plan) (t : ℕ) (o : Option Label) (n : ℕ) → o ≡ labelOn P t → n ≡ used o → (n ≡ usedAt P t) × (n ≤ counts)
+used-here P t o n e h = let q : n ≡ usedAt P t = h ∙ ap used e in (q, omega (arith, q, used-most (labelOn P t)))
 
-pub change-most : (x : Kind) → changeOf x ≤ 1
-unfolding changeOf
-change-most Stay = omega arith
-change-most Any = omega arith
-change-most (Up g) = omega arith
-change-most (Down g) = omega arith
-change-most (Abs g) = omega arith
+-- ---- what an edge counts in a label
+
+module _ (l : Label) (x : Kind) where
+  pub asked-several : l .c ≤ 7 → (n : ℕ) → n ≡ changeOf x → n ≡ askedOf l x
+  unfolding askedOf
+  asked-several h n e = rw (le-leb (l .c) 7 h) e
+
+  module _ (h : 7 < l .c) where
+    asked-one : askedOf l x ≡ cond (eqb (l .c) 8) (upOf x) (downOf x)
+    unfolding askedOf
+    asked-one = rw (lt-leb (l .c) 7 h) refl
+
+    pub asked-other : upOf x ≡ 0 → downOf x ≡ 0 → 0 ≡ askedOf l x
+    asked-other u d = rw (asked-one, u, d) (go (eqb (l .c) 8))
+      where
+        go : (b : Bool) → _≡_ {A = ℕ} 0 (cond b 0 0)
+        go true = refl
+        go false = refl
+
+    pub asked-up : l .c ≡ 8 → (n : ℕ) → n ≡ upOf x → n ≡ askedOf l x
+    asked-up e n q = rw (asked-one, eq-eqb (l .c) 8 e) q
+
+    pub asked-down : (l .c ≡ 8 → ⊥) → (n : ℕ) → n ≡ downOf x → n ≡ askedOf l x
+    asked-down e n q = rw (asked-one, ne-eqb (l .c) 8 e) q
+
+  module _ (a n : ℕ) (ea : a ≡ askedOf l x) (en : n ≡ changeOf x) where
+    pub mark-same : a ≡ n → (n ≡ markOf l x) × (n ≤ 2)
+    unfolding markOf
+    mark-same e =
+        let q : n ≡ markOf l x = rw (← ea, ← en, eq-eqb a n e) refl in
+        (q, omega (arith, q, mark-low l x))
+
+    pub mark-other : (a ≡ n → ⊥) → (2 ≡ markOf l x) × (2 ≤ 2)
+    unfolding markOf
+    mark-other e = (rw (← ea, ← en, ne-eqb a n e) refl, omega arith)
+
+pub need-several : (l : Label) → l .c ≤ 7 → (l .c ≡ need l) × (l .c < counts)
+unfolding need
+need-several l h = (rw (le-leb (l .c) 7 h) refl, omega arith)
+
+pub need-one : (l : Label) → 7 < l .c → (1 ≡ need l) × (1 < counts)
+unfolding need
+need-one l h = (rw (lt-leb (l .c) 7 h) refl, omega arith)
 
 module _ (t : ℕ) (x : Kind) (k : ℕ) (o : Cover) where
   pub after-free : o ≡ Free → 0 ≡ countAfter (labelOf o) t x k
@@ -104,26 +140,26 @@ module _ (t : ℕ) (x : Kind) (k : ℕ) (o : Cover) where
     unfolding countAfter
     after-closed p = rw (e, ← eb, p) refl
 
-    module _ (m : ℕ) (em : m ≡ changeOf x) where
+    module _ (m : ℕ) (em : m ≡ markOf l x) where
       pub after-open : b ≡ false → k + m ≡ countAfter (labelOf o) t x k
-      unfolding countAfter markOf
+      unfolding countAfter
       after-open p = rw (e, ← eb, p, em) refl
 
-      pub before-closed : b ≡ true → l .c - m ≡ countBefore (labelOf o) t x k
-      unfolding countBefore markOf need
-      before-closed p = rw (e, ← eb, p, em) refl
+      pub before-closed : b ≡ true → (n : ℕ) → n ≡ need l → n - m ≡ countBefore (labelOf o) t x k
+      unfolding countBefore
+      before-closed p n en = rw (e, ← eb, p, em, en) refl
 
       pub before-open : b ≡ false → k - m ≡ countBefore (labelOf o) t x k
-      unfolding countBefore markOf
+      unfolding countBefore
       before-open p = rw (e, ← eb, p, em) refl
 
-      pub test-closed : b ≡ true → eqb (k + m) (l .c) ≡ labelTest (labelOf o) t x k
-      unfolding labelTest markOf need
-      test-closed p = rw (e, ← eb, p, em) refl
+      pub test-closed : b ≡ true → (n : ℕ) → n ≡ need l → eqb (k + m) n ≡ labelTest (labelOf o) t x k
+      unfolding labelTest
+      test-closed p n en = rw (e, ← eb, p, em, en) refl
 
-      pub test-open : b ≡ false → leb (k + m) (l .c) ≡ labelTest (labelOf o) t x k
-      unfolding labelTest markOf need
-      test-open p = rw (e, ← eb, p, em) refl
+      pub test-open : b ≡ false → (n : ℕ) → n ≡ need l → leb (k + m) n ≡ labelTest (labelOf o) t x k
+      unfolding labelTest
+      test-open p n en = rw (e, ← eb, p, em, en) refl
 
 module _ (o : Option Label) (t : ℕ) (e : Edge) (k s : ℕ) where
   pub leads-state : (s ≡ e .to → ⊥) → false ≡ leadsFrom o t e k s

@@ -1,4 +1,5 @@
-// Labels at one boundary: which label has it, and what its rule makes of the count of changes.
+// Labels at one boundary: which label has it, and what its rule makes of the count that is kept of it: its changes, where one of another kind than the
+// label asks for counts two (`Marks` in `model/specs`).
 use plan::Edge;
 use plan::Kind;
 use plan::Label;
@@ -6,7 +7,8 @@ use plan::Plan;
 ghost use mathlib.Core.Path.{_≡_};
 ghost use Prim.Native.Nat.{suc, _-_, _+_, _≤_, _<_};
 ghost use lib.Dec.{eqb};
-ghost use Rattle.model.specs.Model.{changeOf, within};
+ghost use Rattle.model.specs.Model.{changeOf, need, askedOf, within};
+ghost use Rattle.model.specs.Marks.{markOf};
 ghost use Rattle.model.specs.Checked.{Checked};
 ghost use Rattle.model.specs.Labels.{labelOn, used, usedAt, counts, countAfter, countBefore, labelTest};
 ghost use Rattle.coded.specs.Coded.{Coded};
@@ -18,8 +20,14 @@ pub enum Cover {
     By(Label),
 }
 
-// The most counts of changes that are kept apart inside an open label: 0 and 1.
-pub const COUNTS: usize = 2;
+// Up to this c a label asks for c changes, above it for one change of a kind.
+const MOST_CHANGES: u8 = 7;
+
+// The c of one up. The other one is 9, one down.
+const ONE_UP: u8 = 8;
+
+// The most counts that are kept apart inside an open label: 0 to 7.
+pub const COUNTS: usize = MOST_CHANGES as usize + 1;
 
 // 1 for a change, 0 for a stay.
 fn change_of(k: Kind) -> usize
@@ -32,6 +40,38 @@ fn change_of(k: Kind) -> usize
         Kind::Down(_) => 1,
         Kind::Abs(_) => 1,
     }
+}
+
+// 1 for a change of the kind that the label asks for.
+fn asked_of(l: Label, x: Kind) -> usize
+    ensures { λ r. ⌜ r ≡ askedOf l x ⌝ }
+{
+    if l.c <= MOST_CHANGES {
+        return change_of(x);
+    }
+    match x {
+        Kind::Stay => 0,
+        Kind::Any => 0,
+        Kind::Up(_) => { if l.c == ONE_UP { 1 } else { 0 } }
+        Kind::Down(_) => { if l.c == ONE_UP { 0 } else { 1 } }
+        Kind::Abs(_) => 0,
+    }
+}
+
+// What an edge of this kind adds to the count inside the label: a change of another kind than the label asks for counts as two, more than
+// such a label allows.
+fn mark_of(l: Label, x: Kind) -> usize
+    ensures { λ r. ⌜ (r ≡ markOf l x) × (r ≤ 2) ⌝ }
+{
+    let change = change_of(x);
+    if asked_of(l, x) == change { change } else { 2 }
+}
+
+// The count that the label asks for.
+fn need_of(l: Label) -> usize
+    ensures { λ r. ⌜ (r ≡ need l) × (r < counts) ⌝ }
+{
+    if l.c <= MOST_CHANGES { l.c as usize } else { 1 }
 }
 
 // Boundaries p to q - 1 have t.
@@ -71,7 +111,7 @@ fn used(on: Cover) -> usize
 {
     match on {
         Cover::Free => 1,
-        Cover::By(l) => (l.c as usize) + 1,
+        Cover::By(l) => need_of(l) + 1,
     }
 }
 
@@ -98,7 +138,7 @@ fn closes(l: Label, t: usize) -> bool
     t + 1 == (l.q as usize)
 }
 
-// The count of changes before boundary t, from the count k after it.
+// The count before boundary t, from the count k after it.
 pub fn count_before(on: Cover, t: usize, x: Kind, k: usize) -> usize
     requires { ⌜ (t < 65536) × (k < 65536) ⌝ }
     ensures { λ r. ⌜ (r ≡ countBefore (labelOf on) t x k) × (r < 65536) ⌝ }
@@ -107,9 +147,9 @@ pub fn count_before(on: Cover, t: usize, x: Kind, k: usize) -> usize
         Cover::Free => 0,
         Cover::By(l) => {
             if closes(l, t) {
-                monus(l.c as usize, change_of(x))
+                monus(need_of(l), mark_of(l, x))
             } else {
-                monus(k, change_of(x))
+                monus(k, mark_of(l, x))
             }
         }
     }
@@ -122,7 +162,7 @@ fn count_after(on: Cover, t: usize, x: Kind, k: usize) -> usize
 {
     match on {
         Cover::Free => 0,
-        Cover::By(l) => { if closes(l, t) { 0 } else { k + change_of(x) } }
+        Cover::By(l) => { if closes(l, t) { 0 } else { k + mark_of(l, x) } }
     }
 }
 
@@ -134,11 +174,11 @@ fn label_test(on: Cover, t: usize, x: Kind, k: usize) -> bool
     match on {
         Cover::Free => k == 0,
         Cover::By(l) => {
-            let after = k + change_of(x);
+            let after = k + mark_of(l, x);
             if closes(l, t) {
-                after == (l.c as usize)
+                after == need_of(l)
             } else {
-                after <= (l.c as usize)
+                after <= need_of(l)
             }
         }
     }

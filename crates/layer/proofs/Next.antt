@@ -103,7 +103,7 @@ module _ {P : Plan} {zs : List ℤ} {g : Shape} (a : Task P zs g) where
 
   -- a count that is used
   pub used-low : (t : ℕ) {k : ℕ} → k < usedAt P t → k < counts
-  used-low t h = omega (arith, used-most P (a .ready .plan) t)
+  used-low t h = omega (arith, used-most (labelOn P t))
 
   -- a list's place, by the shape
   pub list-is : (o k s : ℕ) {d : ℕ} → d ≡ listAt o (g .states) (g .levels) k s → d ≡ listAt o (P .states) (width P) k s

@@ -54,7 +54,6 @@ pub record Checked (P : Plan) : Type 0 where
       → kindNumber (edgeAt P e .kind) ≡ kindNumber (edgeAt P e′ .kind) → e ≡ e′
   pub labels : LabelsInOrder P
   pub low : (i : ℕ) → i < P .labelcount → labelAt P i .q ≤ 4096
-  pub small : (i : ℕ) → i < P .labelcount → labelAt P i .c ≤ 1
 
 -- ---- a number that is 0 passed every test
 
@@ -174,16 +173,16 @@ entry-good S es n e p =
 -- ---- labels
 
 label-good : (ls : List Label) (n : ℕ) (l : Label) → labelNumber ls n l ≡ 0
-    → (n < 64) × (1 ≤ l .p) × (l .p < l .q) × (l .q ≤ 4096) × (l .c ≤ 1) × ((n ≡ 0) ⊎ (getD ls (n - 1) noLabel .q ≤ l .p))
+    → (n < 64) × (1 ≤ l .p) × (l .p < l .q) × (l .q ≤ 4096) × ((n ≡ 0) ⊎ (getD ls (n - 1) noLabel .q ≤ l .p))
 unfolding labelNumber
 label-good ls n l h₀ =
     let (a₁, h₁) = zero-if (leb 64 n) 10 _ (λ e. omega arith) h₀ in
     let (a₂, h₂) = zero-if (eqb (l .p) 0) 8 _ (λ e. omega arith) h₁ in
     let (a₃, h₃) = zero-if (leb (l .q) (l .p)) 8 _ (λ e. omega arith) h₂ in
     let (a₄, h₄) = zero-if (ltb 4096 (l .q)) 8 _ (λ e. omega arith) h₃ in
-    let (a₅, h₅) = zero-if (ltb 1 (l .c)) 8 _ (λ e. omega arith) h₄ in
+    let (a₅, h₅) = zero-if (ltb 9 (l .c)) 8 _ (λ e. omega arith) h₄ in
     let p : l .p ≡ 0 → ⊥ = eqb-false (l .p) 0 a₂ in
-    (leb-false 64 n a₁, omega (arith, p), leb-false (l .q) (l .p) a₃, ltb-false 4096 (l .q) a₄, ltb-false 1 (l .c) a₅, go (eqb n 0) refl h₅)
+    (leb-false 64 n a₁, omega (arith, p), leb-false (l .q) (l .p) a₃, ltb-false 4096 (l .q) a₄, go (eqb n 0) refl h₅)
   where
     go : (b : Bool) → eqb n 0 ≡ b → _≡_ {A = ℕ} (pick b 0 (pick (ltb (l .p) (getD ls (n - 1) noLabel .q)) 12 0)) 0 → (n ≡ 0) ⊎ (getD ls (n - 1) noLabel .q ≤ l .p)
     go true e q = inl (eqb-true n 0 e)
@@ -202,15 +201,15 @@ module _ (ls : List Label) (n : ℕ) (good : (i : ℕ) → i < n → labelNumber
   apart i (suc j) h k = go (ℕ-discrete i j) (apart i j) (label-good ls (suc j) (at (suc j)) (good (suc j) k)) (label-good ls j (at j) (good j (omega arith)))
     where
       Facts : ℕ → Type 0
-      Facts n = (n < 64) × (1 ≤ at n .p) × (at n .p < at n .q) × (at n .q ≤ 4096) × (at n .c ≤ 1) × ((n ≡ 0) ⊎ (getD ls (n - 1) noLabel .q ≤ at n .p))
+      Facts n = (n < 64) × (1 ≤ at n .p) × (at n .p < at n .q) × (at n .q ≤ 4096) × ((n ≡ 0) ⊎ (getD ls (n - 1) noLabel .q ≤ at n .p))
 
       next : (suc j ≡ 0) ⊎ (getD ls (suc j - 1) noLabel .q ≤ at (suc j) .p) → at j .q ≤ at (suc j) .p
       next (inl e) = absurd (omega arith)
       next (inr e) = simp unary-clauses at e
 
       go : Dec (i ≡ j) → (i < j → j < n → at i .q ≤ at j .p) → Facts (suc j) → Facts j → at i .q ≤ at (suc j) .p
-      go (yes e) ih f g = rw e (next (f .5))
-      go (no e) ih f g = omega (arith, ih (omega arith) (omega arith), next (f .5), g .2)
+      go (yes e) ih f g = rw e (next (f .4))
+      go (no e) ih f g = omega (arith, ih (omega arith) (omega arith), next (f .4), g .2)
 
 -- ---- the whole plan
 
@@ -283,7 +282,6 @@ module _ (P : Plan) (h : planNumber P ≡ 0) where
           apart = λ i j k l. apart (P .labels) (P .labelcount) label i j k l;
         };
         low = λ i k. label-good (P .labels) i (labelAt P i) (label i k) .3;
-        small = λ i k. label-good (P .labels) i (labelAt P i) (label i k) .4;
       }
 
 -- ---- a search, a point or a moving window that no number refuses
@@ -429,7 +427,7 @@ entry-is-early s es n e = step-is-early (leb 32 n) es n (e .from) (e .to) (kindN
 pub label-is-early : (ls : List Label) (n : ℕ) (l : Label) → isEarly (labelNumber ls n l) ≡ true
 unfolding labelNumber
 label-is-early ls n l =
-    pick-early (leb 64 n) 10 _ refl (pick-early (eqb (l .p) 0) 8 _ refl (pick-early (leb (l .q) (l .p)) 8 _ refl (pick-early (ltb 4096 (l .q)) 8 _ refl (pick-early (ltb 1 (l .c)) 8 _ refl
+    pick-early (leb 64 n) 10 _ refl (pick-early (eqb (l .p) 0) 8 _ refl (pick-early (leb (l .q) (l .p)) 8 _ refl (pick-early (ltb 4096 (l .q)) 8 _ refl (pick-early (ltb 9 (l .c)) 8 _ refl
     (pick-early (eqb n 0) 0 _ refl (pick-early (ltb (l .p) (getD ls (n - 1) noLabel .q)) 12 0 refl refl))))))
 
 pub plan-is-early : (P : Plan) → isEarly (planNumber P) ≡ true

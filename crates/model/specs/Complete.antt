@@ -18,8 +18,8 @@ use Rattle.plan.specs.declared.Plan.{Plan}
 use Rattle.plan.specs.declared.Label.{Label}
 use Rattle.plan.specs.Build.{planNumber}
 use Rattle.model.specs.Segmentation.{Seg, first, next, readings, lastLevel, Lower, readings-pos}
-use Rattle.model.specs.Model.{edgeAt, labelAt, above, width, permits, inSet, onGrid, lastState, Follows, cost, need, changes, HoldsAt, KeepsLabels, Allowed, AllowedWhole, LeastCost, order, First}
-use Rattle.model.specs.Listed.{each, eachOf, everySeg, followsTest, holdsTest, allBelow, allowedTest, wholeTest, pointTest, keep, lowerTest, key, earlier, firstIn, listed, lowest, leastIn, listedCost}
+use Rattle.model.specs.Model.{edgeAt, labelAt, above, width, permits, inSet, onGrid, lastState, Follows, cost, need, changes, asked, Exactly, AtMost, HoldsAt, KeepsLabels, Allowed, AllowedWhole, LeastCost, order, First}
+use Rattle.model.specs.Listed.{each, eachOf, everySeg, followsTest, exactlyTest, atMostTest, holdsTest, allBelow, allowedTest, wholeTest, pointTest, keep, lowerTest, key, earlier, firstIn, listed, lowest, leastIn, listedCost}
 use Rattle.model.specs.Lists.{In, in-left, in-right}
 use Rattle.model.specs.Bools.{clash, and-yes, yes-and}
 use Rattle.model.specs.Grid.{grid-index, leZ-true, leZ-both}
@@ -117,28 +117,44 @@ module _ (P : Plan) where
   follows-test (next g e m) h =
       yes-and _ _ (follows-test g (h .0)) (yes-and _ _ (lt-ltb e (P .edgecount) (h .1)) (yes-and _ _ (eq-eqb _ _ (h .2)) (yes-and _ _ (h .3) (h .4))))
 
-test-holds : (l : Label) (n x : ℕ) → holdsTest l n x ≡ true → HoldsAt l n x
+test-exactly : (l : Label) (x y : ℕ) → exactlyTest l x y ≡ true → Exactly l x y
+unfolding exactlyTest
+test-exactly l x y h = let (a, b) = and-yes (eqb x (need l)) (eqb y (need l)) h in (eqb-true x (need l) a, eqb-true y (need l) b)
+
+exactly-test : (l : Label) (x y : ℕ) → Exactly l x y → exactlyTest l x y ≡ true
+unfolding exactlyTest
+exactly-test l x y (a, b) = yes-and _ _ (eq-eqb x (need l) a) (eq-eqb y (need l) b)
+
+test-at-most : (l : Label) (x y : ℕ) → atMostTest l x y ≡ true → AtMost l x y
+unfolding atMostTest
+test-at-most l x y h = let (a, b) = and-yes (leb x (need l)) (eqb y x) h in (leb-true x (need l) a, eqb-true y x b)
+
+at-most-test : (l : Label) (x y : ℕ) → AtMost l x y → atMostTest l x y ≡ true
+unfolding atMostTest
+at-most-test l x y (a, b) = yes-and _ _ (le-leb x (need l) a) (eq-eqb y x b)
+
+test-holds : (l : Label) (n x y : ℕ) → holdsTest l n x y ≡ true → HoldsAt l n x y
 unfolding holdsTest
-test-holds l n x h = go (leb (l .q) n) refl h
+test-holds l n x y h = go (leb (l .q) n) refl h
   where
-    inner : (b : Bool) → ltb (l .p) n ≡ b → l .p < n → cond b (leb x (need l)) true ≡ true → x ≤ need l
-    inner true e k r = leb-true x (need l) r
+    inner : (b : Bool) → ltb (l .p) n ≡ b → l .p < n → cond b (atMostTest l x y) true ≡ true → AtMost l x y
+    inner true e k r = test-at-most l x y r
     inner false e k r = absurd (omega (arith, ltb-false (l .p) n e))
 
-    go : (b : Bool) → leb (l .q) n ≡ b → cond b (eqb x (need l)) (cond (ltb (l .p) n) (leb x (need l)) true) ≡ true → HoldsAt l n x
-    go true e r = let k = leb-true (l .q) n e in record { closed = λ a. eqb-true x (need l) r; open′ = λ a b. absurd (omega arith) }
+    go : (b : Bool) → leb (l .q) n ≡ b → cond b (exactlyTest l x y) (cond (ltb (l .p) n) (atMostTest l x y) true) ≡ true → HoldsAt l n x y
+    go true e r = let k = leb-true (l .q) n e in record { closed = λ a. test-exactly l x y r; open′ = λ a b. absurd (omega arith) }
     go false e r = let k = leb-false (l .q) n e in record { closed = λ a. absurd (omega arith); open′ = λ a b. inner (ltb (l .p) n) refl a r }
 
-holds-test : (l : Label) (n x : ℕ) → HoldsAt l n x → holdsTest l n x ≡ true
+holds-test : (l : Label) (n x y : ℕ) → HoldsAt l n x y → holdsTest l n x y ≡ true
 unfolding holdsTest
-holds-test l n x h = go (leb (l .q) n) refl
+holds-test l n x y h = go (leb (l .q) n) refl
   where
-    inner : (b : Bool) → ltb (l .p) n ≡ b → n < l .q → cond b (leb x (need l)) true ≡ true
-    inner true e k = le-leb x (need l) (h .open′ (ltb-true (l .p) n e) k)
+    inner : (b : Bool) → ltb (l .p) n ≡ b → n < l .q → cond b (atMostTest l x y) true ≡ true
+    inner true e k = at-most-test l x y (h .open′ (ltb-true (l .p) n e) k)
     inner false e k = refl
 
-    go : (b : Bool) → leb (l .q) n ≡ b → cond b (eqb x (need l)) (cond (ltb (l .p) n) (leb x (need l)) true) ≡ true
-    go true e = eq-eqb x (need l) (h .closed (leb-true (l .q) n e))
+    go : (b : Bool) → leb (l .q) n ≡ b → cond b (exactlyTest l x y) (cond (ltb (l .p) n) (atMostTest l x y) true) ≡ true
+    go true e = exactly-test l x y (h .closed (leb-true (l .q) n e))
     go false e = inner (ltb (l .p) n) refl (leb-false (l .q) n e)
 
 module _ (P : Plan) (n : ℕ) (g : Seg) where
@@ -150,25 +166,25 @@ module _ (P : Plan) (n : ℕ) (g : Seg) where
       record {
         count = eqb-true (readings g) n a;
         follows = test-follows P g b;
-        labels = λ i k. test-holds _ _ _ (all-yes _ (P .labelcount) i c k);
+        labels = λ i k. test-holds _ _ _ _ (all-yes _ (P .labelcount) i c k);
       }
 
   allowed-test : Allowed P n g → allowedTest P n g ≡ true
   unfolding allowedTest KeepsLabels
   allowed-test a =
       yes-and _ _ (eq-eqb _ _ (a .count)) (yes-and _ _ (follows-test P g (a .follows))
-      (yes-all _ (P .labelcount) (λ i k. holds-test _ _ _ (a .labels i k))))
+      (yes-all _ (P .labelcount) (λ i k. holds-test _ _ _ _ (a .labels i k))))
 
   test-whole : wholeTest P n g ≡ true → AllowedWhole P n g
   unfolding wholeTest
   test-whole h =
       let (a, r) = and-yes (eqb (readings g) n) _ h in
       let (b, r₁) = and-yes (followsTest P g) _ r in
-      let (c, d) = and-yes (allBelow (λ i. eqb (changes P (labelAt P i) g) (need (labelAt P i))) (P .labelcount)) (inSet (P .end) (lastState P g)) r₁ in
+      let (c, d) = and-yes (allBelow (λ i. exactlyTest (labelAt P i) (changes P (labelAt P i) g) (asked P (labelAt P i) g)) (P .labelcount)) (inSet (P .end) (lastState P g)) r₁ in
       record {
         count = eqb-true (readings g) n a;
         follows = test-follows P g b;
-        labels = λ i k. eqb-true _ _ (all-yes _ (P .labelcount) i c k);
+        labels = λ i k. test-exactly _ _ _ (all-yes _ (P .labelcount) i c k);
         ends = d;
       }
 
@@ -176,7 +192,7 @@ module _ (P : Plan) (n : ℕ) (g : Seg) where
   unfolding wholeTest
   whole-test a =
       yes-and _ _ (eq-eqb _ _ (a .count)) (yes-and _ _ (follows-test P g (a .follows))
-      (yes-and _ _ (yes-all _ (P .labelcount) (λ i k. eq-eqb _ _ (a .labels i k))) (a .ends)))
+      (yes-and _ _ (yes-all _ (P .labelcount) (λ i k. exactly-test _ _ _ (a .labels i k))) (a .ends)))
 
   module _ (s : ℕ) (m : ℤ) where
     test-point : pointTest P n s m g ≡ true → Allowed P n g × (lastState P g ≡ s) × (lastLevel g ≡ m)

@@ -26,7 +26,7 @@ use Rattle.model.specs.Result.{whole, point, found, refused, foundSeg, f
 use Rattle.model.specs.Demand3.{unless-none}
 use Rattle.model.specs.Agree.{searched, searched-right}
 use Rattle.model.specs.Nodes.{Node, node}
-use Rattle.model.specs.Labels.{counts, usedAt, used-most}
+use Rattle.model.specs.Labels.{labelOn, counts, usedAt, used-most}
 use Rattle.model.specs.Opt.{opt, before, pointBest, pointCost}
 use Rattle.model.specs.Answer.{endCost, leastEnd, answer, trace, trace-right, way-is}
 use Rattle.model.specs.Run.{run, joins, runs, runNumbers, numbers}
@@ -84,7 +84,7 @@ module _ (P : Plan) (zs : List ℤ) (H : Table) (hold : Holding P zs (length zs)
   pub point-held : Checked P → (s j : ℕ) → s < P .states → j < width P → pointCost P zs s (P .lo +ℤ pos j) ≡ held (pointAt (usedAt P (length zs)) H s j)
   unfolding pointCost pointBest pointAt value
   point-held ch s j hs hj =
-      ap (Option·map value) (sym (held-least n (λ k. H k s j) ∙ least-ext n _ _ (λ k hk. hold .at k s j (omega (arith, used-most P ch (length zs))) hs hj)))
+      ap (Option·map value) (sym (held-least n (λ k. H k s j) ∙ least-ext n _ _ (λ k hk. hold .at k s j (omega (arith, used-most (labelOn P (length zs)))) hs hj)))
       ∙ same (held (minBelow n (λ k. H k s j)))
     where
       n : ℕ

@@ -11,7 +11,7 @@ use lib.ListN.{length}
 use Rattle.plan.specs.declared.Plan.{Plan}
 use Rattle.plan.specs.declared.Label.{Label}
 use Rattle.model.specs.Segmentation.{Seg, first, next, readings, lastLevel}
-use Rattle.model.specs.Model.{edgeAt, labelAt, width, permits, inSet, onGrid, lastState, cost, need, changes, order}
+use Rattle.model.specs.Model.{edgeAt, labelAt, width, permits, inSet, onGrid, lastState, cost, need, changes, asked, order}
 
 -- ---- every segmentation of n readings
 
@@ -38,8 +38,14 @@ followsTest P (first s m) = inSet (P .start) s && onGrid P m
 followsTest P (next g e m) =
     followsTest P g && (ltb e (P .edgecount) && (eqb (edgeAt P e .from) (lastState P g) && (permits (edgeAt P e .kind) (lastLevel g) m && onGrid P m)))
 
-unfoldable pub holdsTest : Label → ℕ → ℕ → Bool
-holdsTest l n x = cond (leb (l .q) n) (eqb x (need l)) (cond (ltb (l .p) n) (leb x (need l)) true)
+unfoldable pub exactlyTest : Label → ℕ → ℕ → Bool
+exactlyTest l x y = eqb x (need l) && eqb y (need l)
+
+unfoldable pub atMostTest : Label → ℕ → ℕ → Bool
+atMostTest l x y = leb x (need l) && eqb y x
+
+unfoldable pub holdsTest : Label → ℕ → ℕ → ℕ → Bool
+holdsTest l n x y = cond (leb (l .q) n) (exactlyTest l x y) (cond (ltb (l .p) n) (atMostTest l x y) true)
 
 unfoldable pub allBelow : (ℕ → Bool) → ℕ → Bool
 allBelow f zero = true
@@ -48,7 +54,7 @@ allBelow f (suc n) = allBelow f n && f n
 -- allowed at a point, and at the named state and level
 unfoldable pub allowedTest : Plan → ℕ → Seg → Bool
 allowedTest P n g =
-    eqb (readings g) n && (followsTest P g && allBelow (λ i. holdsTest (labelAt P i) (readings g) (changes P (labelAt P i) g)) (P .labelcount))
+    eqb (readings g) n && (followsTest P g && allBelow (λ i. holdsTest (labelAt P i) (readings g) (changes P (labelAt P i) g) (asked P (labelAt P i) g)) (P .labelcount))
 
 unfoldable pub pointTest : Plan → ℕ → ℕ → ℤ → Seg → Bool
 pointTest P n s m g = allowedTest P n g && (eqb (lastState P g) s && (leZ (lastLevel g) m && leZ m (lastLevel g)))
@@ -57,7 +63,7 @@ pointTest P n s m g = allowedTest P n g && (eqb (lastState P g) s && (leZ (lastL
 unfoldable pub wholeTest : Plan → ℕ → Seg → Bool
 wholeTest P n g =
     eqb (readings g) n && (followsTest P g
-    && (allBelow (λ i. eqb (changes P (labelAt P i) g) (need (labelAt P i))) (P .labelcount) && inSet (P .end) (lastState P g)))
+    && (allBelow (λ i. exactlyTest (labelAt P i) (changes P (labelAt P i) g) (asked P (labelAt P i) g)) (P .labelcount) && inSet (P .end) (lastState P g)))
 
 unfoldable pub keep : {A : Type 0} → (A → Bool) → List A → List A
 keep t [] = []

@@ -24,12 +24,13 @@ use lib.ListN.{length, getD}
 use lib.Signed.{mag}
 use Rattle.plan.specs.declared.Plan.{Plan}
 use Rattle.plan.specs.declared.Label.{Label}
-use Rattle.model.specs.Model.{edgeAt, markOf, need, width, penaltyOf, inSet, onGrid, lossAt}
+use Rattle.model.specs.Model.{edgeAt, need, width, penaltyOf, inSet, onGrid, lossAt}
 use Rattle.model.specs.Refusals.{searchNumber, pointNumber}
 use Rattle.model.specs.Run.{run, joins}
 use Rattle.model.specs.Checked.{Checked, accepted, accepted-point}
 use Rattle.model.specs.Bools.{and-yes, yes-and, same-test}
 use Rattle.model.specs.Grid.{index-grid}
+use Rattle.model.specs.Marks.{markOf}
 use Rattle.model.specs.Labels.{labelOn, labelTest, countAfter, countBefore, counts}
 use Rattle.model.specs.Nodes.{node}
 use Rattle.model.specs.Opt.{opt}

@@ -13,7 +13,7 @@ use Rattle.integers.specs.Rep.{le-or-lt}
 use Rattle.plan.specs.declared.Plan.{Plan}
 use Rattle.model.specs.Model.{width}
 use Rattle.model.specs.Checked.{Checked}
-use Rattle.model.specs.Labels.{counts, usedAt, used-most}
+use Rattle.model.specs.Labels.{labelOn, usedAt, used-most}
 use Rattle.model.specs.Ends.{tableAt}
 use Rattle.curve.specs.Pieces.{Held}
 use Rattle.curve.specs.Lists.{count-most, count-same}
@@ -21,7 +21,7 @@ use Rattle.curve.specs.Curve.{Curve, curve-same}
 use Rattle.layer.specs.Layer.{stepMost, baseOf, listAt, layerWords, Layer}
 use Rattle.layer.proofs.Next.{list-within}
 use Rattle.saved.specs.Packed.{Chain, Inside, Row, Packing, Unpacked}
-use Rattle.saved.specs.Walk.{stackAt, limit, Packed, Entry, Stack, timeOf, offOf, Pushed, Dropped}
+use Rattle.saved.specs.Walk.{mostSlots, tableSize, stackAt, limit, Packed, Entry, Stack, timeOf, offOf, Pushed, Dropped}
 use Rattle.saved.proofs.Chains.{chain-low, chain-next, chain-part, chain-same}
 
 pub product-low : (x y : ℕ) → x ≤ 4096 → y ≤ 8192 → x * y ≤ 33554432
@@ -32,13 +32,13 @@ product-low x y h g = mul-le-mul h g
 set-old : (l : List ℕ) (i j x : ℕ) → (j ≡ i → ⊥) → getD (set l i x) j 0 ≡ getD l j 0
 set-old l i j x n = getD-set-other l i j x 0 n
 
-pub pushed : (T : List ℕ) (n t e : ℕ) → length T ≡ 193 → n < 96 → Pushed T n t e (set (set T n t) (96 + (n + 1)) e)
+pub pushed : (T : List ℕ) (n t e : ℕ) → length T ≡ tableSize → n < mostSlots → Pushed T n t e (set (set T n t) (mostSlots + (n + 1)) e)
 pushed T n t e z h = record {
-  size = length-set (set T n t) (96 + (n + 1)) e ∙ length-set T n t;
-  time = set-old (set T n t) (96 + (n + 1)) n e (λ p. omega arith) ∙ getD-set-same T n t 0 (omega arith);
-  off = getD-set-same (set T n t) (96 + (n + 1)) e 0 (omega (arith, length-set T n t));
-  old-time = λ i g. set-old (set T n t) (96 + (n + 1)) i e (λ p. omega arith) ∙ set-old T n i t (λ p. omega arith);
-  old-off = λ i g. set-old (set T n t) (96 + (n + 1)) (96 + i) e (λ p. omega arith) ∙ set-old T n (96 + i) t (λ p. omega arith);
+  size = length-set (set T n t) (mostSlots + (n + 1)) e ∙ length-set T n t;
+  time = set-old (set T n t) (mostSlots + (n + 1)) n e (λ p. omega arith) ∙ getD-set-same T n t 0 (omega arith);
+  off = getD-set-same (set T n t) (mostSlots + (n + 1)) e 0 (omega (arith, length-set T n t));
+  old-time = λ i g. set-old (set T n t) (mostSlots + (n + 1)) i e (λ p. omega arith) ∙ set-old T n i t (λ p. omega arith);
+  old-off = λ i g. set-old (set T n t) (mostSlots + (n + 1)) (mostSlots + i) e (λ p. omega arith) ∙ set-old T n (mostSlots + i) t (λ p. omega arith);
 }
 
 -- ---- one layer
@@ -51,7 +51,7 @@ module _ {P : Plan} {zs : List ℤ} {t : ℕ} where
   pub layer-same : {ws ws′ : List ℕ} {o : ℕ} → Checked P → length ws′ ≡ length ws → ((i : ℕ) → o ≤ i → i < o + layerWords P → getD ws′ i 0 ≡ getD ws i 0) → Layer P zs t ws o → Layer P zs t ws′ o
   layer-same {o = o} ch e f y = record {
     list = λ k s hk hs.
-        let b = list-within o (P .states) (width P) k s (omega (arith, used-most P ch t)) hs in
+        let b = list-within o (P .states) (width P) k s (omega (arith, used-most (labelOn P t))) hs in
         let c = y .list k s hk hs in
         curve-same e c (record { word = λ i u v. f i (omega arith) (omega (arith, count-most (c .held .formed))) });
   }
@@ -65,7 +65,7 @@ module _ {P : Plan} {zs : List ℤ} {t : ℕ} where
         let m : q % P .states < P .states = mod-lt q (ch .some-states) in
         let k : q / P .states < usedAt P t = ⊎-elim (λ p. absurd (omega (arith, mul-le-mul-right (P .states) p))) (λ p. p) (le-or-lt (usedAt P t) (q / P .states)) in
         subst (λ (x : ℕ). Held ws (o + x * (4 * width P)) (width P)) e (y .list (q / P .states) (q % P .states) k m .held);
-    few = omega (arith, mul-le-mul (used-most P ch t) (ch .few-states));
+    few = omega (arith, mul-le-mul (used-most (labelOn P t)) (ch .few-states));
     narrow = ch .narrow;
   }
 
@@ -135,7 +135,7 @@ module _ {P : Plan} {zs : List ℤ} {n : ℕ} {T : List ℕ} where
     pub stack-kept : {ws′ : List ℕ} {m : ℕ} → m ≡ n → Inside 0 (stackAt P) ws ws′ → Stack P zs m T ws′
     stack-kept {ws′} e i = subst (λ (x : ℕ). Stack P zs x T ws′) (sym e) (stack-same (i .size) (λ j u v. i .word j (inr u)))
 
-    pub stack-pushed : {t e : ℕ} {T′ : List ℕ} → n < 96 → Pushed T n t e T′ → 1 ≤ t → t ≤ length zs → e ≤ limit P → Packed P zs t ws (offOf T n) e → Stack P zs (n + 1) T′ ws
+    pub stack-pushed : {t e : ℕ} {T′ : List ℕ} → n < mostSlots → Pushed T n t e T′ → 1 ≤ t → t ≤ length zs → e ≤ limit P → Packed P zs t ws (offOf T n) e → Stack P zs (n + 1) T′ ws
     stack-pushed {t} {e} {T′} few p some most fits y = record {
       size = p .size ∙ k .size;
       few = omega arith;
@@ -159,11 +159,11 @@ module _ {P : Plan} {zs : List ℤ} {n : ℕ} {T : List ℕ} where
       entry = λ i h. k .entry i (omega (arith, d .count));
     }
 
-pub stack-empty : {P : Plan} {zs : List ℤ} (a : ℕ) (T ws : List ℕ) → length T ≡ 193 → a ≡ stackAt P → stackAt P ≤ limit P → Stack P zs 0 (set T 96 a) ws
+pub stack-empty : {P : Plan} {zs : List ℤ} (a : ℕ) (T ws : List ℕ) → length T ≡ tableSize → a ≡ stackAt P → stackAt P ≤ limit P → Stack P zs 0 (set T mostSlots a) ws
 stack-empty a T ws z e h =
-    let q : getD (set T 96 a) 96 0 ≡ a = getD-set-same T 96 a 0 (omega arith) in
+    let q : getD (set T mostSlots a) mostSlots 0 ≡ a = getD-set-same T mostSlots a 0 (omega arith) in
     record {
-      size = length-set T 96 a ∙ z;
+      size = length-set T mostSlots a ∙ z;
       few = omega arith;
       first = q ∙ e;
       top = omega (arith, q);

@@ -12,7 +12,7 @@ use Rattle.integers.specs.Rep.{le-or-lt}
 use Rattle.plan.specs.declared.Plan.{Plan}
 use Rattle.model.specs.Model.{width}
 use Rattle.model.specs.Checked.{Checked}
-use Rattle.model.specs.Labels.{counts, usedAt, used-most}
+use Rattle.model.specs.Labels.{labelOn, counts, usedAt, used-most}
 use Rattle.layer.specs.declared.Shape.{Shape}
 use Rattle.layer.specs.Layer.{tempWords, placeMost, layerCell, layerWords, ShapeOf, Layer}
 use Rattle.layer.specs.Next.{StepReady, Stepped, StartReady}
@@ -20,7 +20,7 @@ use Rattle.saved.specs.declared.Walk.{Walk}
 use Rattle.saved.specs.declared.Room.{Room}
 use Rattle.saved.specs.declared.Room.the-variants.{Upto}
 use Rattle.saved.specs.Packed.{Inside, Row, PackReady, Packing, Saves, UnpackReady, Unpacked}
-use Rattle.saved.specs.Walk.{freeCell, limitCell, stackAt, limit, Places, Entry, Stack, timeOf, offOf, At, Workspace, Walked, Reached, Pushed, Dropped, Restarted, Stops}
+use Rattle.saved.specs.Walk.{mostSlots, tableSize, freeCell, limitCell, stackAt, limit, Places, Entry, Stack, timeOf, offOf, At, Workspace, Walked, Reached, Pushed, Dropped, Restarted, Stops}
 use Rattle.saved.proofs.Chains.{inside-wider, inside-then}
 use Rattle.saved.proofs.Stacks.{layer-same, layer-row, layer-packed, packed-layer, off-low, off-high, stack-same, stack-kept, stack-pushed, stack-empty}
 
@@ -43,7 +43,7 @@ module _ {P : Plan} {zs : List ℤ} {g : Shape} {ws : List ℕ} (a : Workspace P
 
   -- the lists of the layer after t readings lie within its place
   lists-low : (t : ℕ) → usedAt P t * P .states * (4 * width P) ≤ layerWords P
-  lists-low t = omega (arith, mul-le-mul-right (4 * width P) (mul-le-mul-right (P .states) (used-most P (a .task .ready .plan) t)))
+  lists-low t = omega (arith, mul-le-mul-right (4 * width P) (mul-le-mul-right (P .states) (used-most (labelOn P t))))
 
   small : P .states * width P ≤ 8192
   small = mul-le-mul (a .task .ready .plan .few-states) (a .task .ready .plan .narrow)
@@ -77,7 +77,7 @@ module _ {P : Plan} {zs : List ℤ} {g : Shape} {ws : List ℕ} (a : Workspace P
   -- ---- starting again
 
   -- at the first reading, with no entry in the table
-  pub empty-ready : {x : ℕ} (T : List ℕ) → x ≡ g .states * g .levels → length T ≡ 193 → Workspace P zs g ws × (Places P 0 (layerCell * x) × Stack P zs 0 (set T 96 (freeCell * x + tempWords (g .levels))) ws)
+  pub empty-ready : {x : ℕ} (T : List ℕ) → x ≡ g .states * g .levels → length T ≡ tableSize → Workspace P zs g ws × (Places P 0 (layerCell * x) × Stack P zs 0 (set T mostSlots (freeCell * x + tempWords (g .levels))) ws)
   empty-ready {x} T e z = (a, (inl (refl, omega (arith, area-is e)), stack-empty _ T ws z (omega (arith, area-is e, a .task .shape .levels)) stack-fits))
 
   module _ {cur other : ℕ} (places : Places P cur other) where
@@ -110,7 +110,7 @@ module _ {P : Plan} {zs : List ℤ} {g : Shape} {ws : List ℕ} (a : Workspace P
         chain = k .entry (n - 1) (omega arith) .packed .chain;
         below = omega (arith, layers-low places, lists-low (timeOf T (n - 1)), off-low k (n - 1) (omega arith));
         start = omega (arith, off-high k (n - 1) (omega arith), k .top, a .room);
-        few = omega (arith, mul-le-mul (used-most P (a .task .ready .plan) (timeOf T (n - 1))) (a .task .ready .plan .few-states));
+        few = omega (arith, mul-le-mul (used-most (labelOn P (timeOf T (n - 1)))) (a .task .ready .plan .few-states));
         narrow = a .task .ready .plan .narrow;
       })
 
@@ -211,7 +211,7 @@ module _ {P : Plan} {zs : List ℤ} {g : Shape} {ws : List ℕ} (a : Workspace P
           }
 
           -- packed above the stack the layer is one entry more
-          pub pushed-walked : {o t : ℕ} {T′ : List ℕ} → w .time ≡ t → r ≡ Upto o → w .count < 96 → Pushed T (w .count) (w .time) o T′
+          pub pushed-walked : {o t : ℕ} {T′ : List ℕ} → w .time ≡ t → r ≡ Upto o → w .count < mostSlots → Pushed T (w .count) (w .time) o T′
               → Walked P zs t T′ ws ws′ (record { time = w .time; cur = w .cur; other = w .other; count = w .count + 1 })
           pushed-walked {o} q z few d = record {
             at = record { some = p .some; most = p .most; places = p .places; layer = still-layer };

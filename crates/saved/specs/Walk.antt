@@ -31,6 +31,13 @@ stackAt P = freeCell * (P .states * width P) + tempWords (width P)
 abbrev pub limit : Plan → ℕ
 limit P = limitCell * (P .states * width P)
 
+-- the most layers that are saved, and the numbers of the table of them: how many readings each is after, where each starts and where the last one ends
+abbrev pub mostSlots : ℕ
+mostSlots = 1024
+
+abbrev pub tableSize : ℕ
+tableSize = 2 * mostSlots + 1
+
 -- the layer after t readings stands packed from a up to e, in the order of its lists
 pub record Packed (P : Plan) (zs : List ℤ) (t : ℕ) (ws : List ℕ) (a e : ℕ) : Type 0 where
   pub chain : Chain (width P) ws a (usedAt P t * P .states) e
@@ -41,7 +48,7 @@ abbrev pub timeOf : List ℕ → ℕ → ℕ
 timeOf T i = getD T i 0
 
 abbrev pub offOf : List ℕ → ℕ → ℕ
-offOf T i = getD T (96 + i) 0
+offOf T i = getD T (mostSlots + i) 0
 
 pub record Entry (P : Plan) (zs : List ℤ) (t : ℕ) (ws : List ℕ) (a e : ℕ) : Type 0 where
   pub some : 1 ≤ t
@@ -50,8 +57,8 @@ pub record Entry (P : Plan) (zs : List ℤ) (t : ℕ) (ws : List ℕ) (a e : ℕ
 
 -- the n saved layers of the table T
 pub record Stack (P : Plan) (zs : List ℤ) (n : ℕ) (T ws : List ℕ) : Type 0 where
-  pub size : length T ≡ 193
-  pub few : n ≤ 96
+  pub size : length T ≡ tableSize
+  pub few : n ≤ mostSlots
   pub first : offOf T 0 ≡ stackAt P
   pub top : offOf T n ≤ limit P
   pub entry : (i : ℕ) → i < n → Entry P zs (timeOf T i) ws (offOf T i) (offOf T (i + 1))
@@ -125,8 +132,8 @@ pub record Stops (P : Plan) (g : Shape) (w : Walk) (t : ℕ) (T ws : List ℕ) :
   pub shape : ShapeOf P g
   pub row : Row ws (w .cur) (usedAt P (w .time) * P .states) (g .levels)
   pub place : w .cur + usedAt P (w .time) * P .states * (4 * g .levels) ≤ placeMost
-  pub size : length T ≡ 193
-  pub few : w .count ≤ 96
+  pub size : length T ≡ tableSize
+  pub few : w .count ≤ mostSlots
   pub top : offOf T (w .count) ≤ limitCell * (g .states * g .levels)
   pub before : w .time < t
   pub most : t ≤ 4096

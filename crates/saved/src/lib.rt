@@ -13,15 +13,15 @@ ghost use Rattle.model.specs.Checked.{Checked};
 ghost use Rattle.model.specs.Labels.{counts, usedAt};
 ghost use Rattle.layer.specs.Layer.{Shape-small, ShapeOf, placeMost};
 ghost use Rattle.saved.specs.Packed.{Row, PackReady, Saves, UnpackReady, Unpacked};
-ghost use Rattle.saved.specs.Walk.{Workspace, At, Goes, Walked, Reached, Places, Stack, Pushed, Dropped, Restarted, Stops};
+ghost use Rattle.saved.specs.Walk.{mostSlots, tableSize, Workspace, At, Goes, Walked, Reached, Places, Stack, Pushed, Dropped, Restarted, Stops};
 
 // The words of the workspace for each state and level: those of two layers, and all of them.
 const FREE_AT: usize = 2 * layer::LAYER_WORDS;
 
 pub const ALL_WORDS: usize = 24 * labels::COUNTS;
 
-// The most layers that are saved.
-pub const SLOTS: usize = 96;
+// The most layers that are saved. Where a record has no more, and they fit in the words, none is made twice.
+pub const SLOTS: usize = 1024;
 
 // The numbers of the table of saved layers. Entry i: the layer after table[i] readings, packed in the words from table[SLOTS + i] up to
 // table[SLOTS + i + 1]. The table is lent from call to call and not handed on by value: at each step back that would copy all of it.
@@ -139,7 +139,7 @@ fn clamp(x: usize, d: usize) -> usize
 
 // Where to save next on the way from a to t, with room for c layers: t where there is none.
 fn next_save(a: usize, t: usize, c: usize) -> usize
-    requires { ⌜ (a < t) × ((t ≤ 4096) × (c ≤ 96)) ⌝ }
+    requires { ⌜ (a < t) × ((t ≤ 4096) × (c ≤ mostSlots)) ⌝ }
     ensures { λ r. ⌜ (a < r) × (r ≤ t) ⌝ }
 {
     if c == 0 {
@@ -151,12 +151,12 @@ fn next_save(a: usize, t: usize, c: usize) -> usize
     a + clamp(x, d)
 }
 
-// How many layers of about these words there is room for: at most the slots. Later layers are taken as a quarter larger.
+// How many layers of these words there is room for: at most the slots. Later layers are taken to be as large as the one at hand.
 fn free_slots(words: usize, free: usize, slots: usize) -> usize
-    requires { ⌜ (words ≤ 8 * counts * 4096) × (slots ≤ 96) ⌝ }
-    ensures { λ r. ⌜ r ≤ 96 ⌝ }
+    requires { ⌜ (words ≤ 8 * counts * 4096) × (slots ≤ mostSlots) ⌝ }
+    ensures { λ r. ⌜ r ≤ mostSlots ⌝ }
 {
-    let fit = free / (words * 5 / 4 + 1);
+    let fit = free / (words + 1);
     if fit < slots { fit } else { slots }
 }
 
@@ -173,7 +173,7 @@ fn next_stop(
 ) -> usize
     requires { ⌜ Stops plan g walk t (now table) (now ws) ⌝ }
     requires { ⌜ Coded plan (now code) ⌝ }
-    requires { ⌜ slots ≤ 96 ⌝ }
+    requires { ⌜ slots ≤ mostSlots ⌝ }
     ensures { λ r. ⌜ (walk .time < r) × (r ≤ t) ⌝ }
 {
     let n = walk.count;
@@ -189,7 +189,7 @@ fn next_stop(
 
 // The layer after t readings, packed up to e, as one entry more.
 fn push(table: &mut [usize], count: usize, t: usize, e: usize)
-    requires { ⌜ (length (now table) ≡ 193) × (count < 96) ⌝ }
+    requires { ⌜ (length (now table) ≡ tableSize) × (count < mostSlots) ⌝ }
     ensures { λ r. ⌜ Pushed (now (table .entry)) count t e (now (table .exit)) ⌝ }
 {
     table[count] = t;
@@ -199,7 +199,7 @@ fn push(table: &mut [usize], count: usize, t: usize, e: usize)
 
 // How many entries are left without those later than t on top.
 fn drop_after(table: &[usize], count: usize, t: usize) -> usize
-    requires { ⌜ (length (now table) ≡ 193) × (count ≤ 96) ⌝ }
+    requires { ⌜ (length (now table) ≡ tableSize) × (count ≤ mostSlots) ⌝ }
     ensures { λ r. ⌜ Dropped (now (table .entry)) count t r ⌝ }
 {
     let mut n = count;
@@ -341,7 +341,7 @@ pub fn advance(
 ) -> Walk
     requires { ⌜ Goes plan (now readings) g walk t (now ws) × Stack plan (now readings) (walk .count) (now table) (now ws) ⌝ }
     requires { ⌜ Coded plan (now code) ⌝ }
-    requires { ⌜ slots ≤ 96 ⌝ }
+    requires { ⌜ slots ≤ mostSlots ⌝ }
     ensures { λ r. ⌜ Walked plan (now (readings .entry)) t (now (table .exit)) (now (ws .entry)) (now (ws .exit)) r ⌝ }
 {
     let mut w = walk;
@@ -361,7 +361,7 @@ pub fn begin(
     g: Shape,
     table: &mut [usize],
 ) -> Walk
-    requires { ⌜ Workspace plan (now readings) g (now ws) × (length (now table) ≡ 193) ⌝ }
+    requires { ⌜ Workspace plan (now readings) g (now ws) × (length (now table) ≡ tableSize) ⌝ }
     requires { ⌜ Coded plan (now code) ⌝ }
     ensures { λ r. ⌜ Walked plan (now (readings .entry)) 1 (now (table .exit)) (now (ws .entry)) (now (ws .exit)) r ⌝ }
 {

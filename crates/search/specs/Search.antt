@@ -15,9 +15,9 @@ use Rattle.search.specs.declared.Found.the-variants.{Segmentation, Refus
 use Rattle.search.specs.declared.Cost.{Cost}
 use Rattle.search.specs.declared.Cost.the-variants.{Least, Refusal}
 
--- "48 × S × L words of 64 bits"
+-- "192 × S × L words" (ticket 2 of the change requests, 02) of 64 bits
 unfoldable pub workWords : Plan → ℕ
-workWords P = 48 * (P .states * width P)
+workWords P = 192 * (P .states * width P)
 
 -- "Search: 11, 9, 13, 14, 15, 16": the numbers before 14, then what is lent, then the model's answer
 unfoldable pub searchResult : Plan → List ℤ → ℕ → ℕ → Result
@@ -56,7 +56,7 @@ abbrev pub looked : Result → Bool
 looked (found c ns) = true
 looked (refused n) = eqb n 16
 
--- "the first 48 × S × L words are zero and the others untouched; after other refusals all are untouched"
+-- "the first .. × S × L words are zero and the others untouched; after other refusals all are untouched", 192 of them "also for what is cleared" (02)
 unfoldable pub wordsLeft : Plan → Bool → List ℕ → List ℕ
 wordsLeft P l ws = cond l (replicate (workWords P) 0 ++ drop (workWords P) ws) ws
 

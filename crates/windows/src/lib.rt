@@ -4,6 +4,7 @@ use plan::Plan;
 ghost use mathlib.Core.Path.{_≡_};
 ghost use lib.ListN.{length};
 ghost use Rattle.coded.specs.Coded.{Coded};
+ghost use Rattle.saved.specs.Walk.{tableSize};
 ghost use Rattle.windows.specs.Windows.{windowResult, filledOf, costsAfter, windowWords};
 ghost use Rattle.windows.specs.Fill.{Fillable, FilledTo};
 
@@ -25,7 +26,7 @@ fn each_part(
     costs: &mut [u64],
 ) -> Filled
     requires { ⌜ Fillable plan (now «record») w g (now ws) (now costs) ⌝ }
-    requires { ⌜ Coded plan (now code) × (length (now table) ≡ 193) ⌝ }
+    requires { ⌜ Coded plan (now code) × (length (now table) ≡ tableSize) ⌝ }
     ensures { λ r. ⌜ FilledTo plan (now («record» .entry)) w r (now (ws .entry)) (now (ws .exit)) (now (costs .entry)) (now (costs .exit)) ⌝ }
 {
     let last = record.len() - w;

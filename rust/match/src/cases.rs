@@ -9,6 +9,8 @@ use crate::{selftest, RULES};
 pub enum Profile {
     Tiny,
     Small,
+    /// Labels of every c, and now and then one above 9.
+    Labelled,
     Program,
     Damaged,
     Mutated,
@@ -25,6 +27,7 @@ impl Profile {
         match self {
             Profile::Tiny => "tiny",
             Profile::Small => "small",
+            Profile::Labelled => "labelled",
             Profile::Program => "program",
             Profile::Damaged => "damaged",
             Profile::Mutated => "mutated",
@@ -51,7 +54,8 @@ pub fn profile_of(case: u64) -> Profile {
     }
     match case % 40 {
         0..=7 => Profile::Tiny,
-        8..=15 => Profile::Small,
+        8..=12 => Profile::Small,
+        13..=15 => Profile::Labelled,
         16..=24 => Profile::Damaged,
         25..=31 => Profile::Mutated,
         32 => Profile::Program,
@@ -68,6 +72,7 @@ pub fn file(rng: &mut Rng, profile: Profile, case: u64) -> Vec<u8> {
     match profile {
         Profile::Tiny => selftest::tiny_case(rng, RULES, 400_000).file(RULES),
         Profile::Small => small(rng).file(RULES),
+        Profile::Labelled => labelled_file(rng),
         Profile::Program if rng.one_in(5) => special(rng).file(RULES),
         Profile::Program => gen::program_case(rng, RULES).file(RULES),
         Profile::Damaged => gen::damaged_file(rng, RULES, damage),
@@ -111,6 +116,71 @@ fn small(rng: &mut Rng) -> Case {
         return gen::special_case(rng, RULES, if (19..23).contains(&which) { 3 } else { which });
     }
     gen::small_case(rng, RULES)
+}
+
+/// A file with labels of every c; one in twelve is refused with 8 for the c of its last label alone.
+fn labelled_file(rng: &mut Rng) -> Vec<u8> {
+    let case = labelled(rng);
+    let mut file = case.file(RULES);
+    if rng.one_in(12) {
+        // the last byte before the field of the readings
+        let at = file.len() - 2 * case.record.readings.len() - 4;
+        let any = rng.range(10, 255) as u8;
+        file[at] = rng.pick(&[10, 10, 11, 128, 255, any]);
+    }
+    file
+}
+
+/// Few states and levels, and edges of all kinds, so that most labels can be kept and many of them change the answer.
+fn labelled(rng: &mut Rng) -> Case {
+    let states = rng.range(1, 4);
+    let levels = rng.range(2, gen::segment_cells(RULES) / states);
+    let lo = rng.range(-levels, 3);
+    let (hi, all) = (lo + levels - 1, (1 << states) - 1);
+    let mut whole = plan::open(RULES, 1, lo as i16, hi as i16, states as u8, all, all).expect("a grid");
+    // where changes cost little, an open label often has as many as it allows
+    let dearest = rng.range(0, 6);
+    for state in 0..states as u8 {
+        let next = (state + 1) % states as u8;
+        for (from, to, kind) in [
+            (state, state, plan::STAY),
+            (state, next, plan::ANY),
+            (state, next, plan::UP),
+            (next, state, plan::DOWN),
+            (state, next, plan::ABS),
+        ] {
+            let gap = if kind <= plan::ANY { 0 } else { rng.range(0, 2) as u16 };
+            let class = if kind == plan::STAY { 0 } else { rng.range(0, dearest) as u8 };
+            if !rng.one_in(6) {
+                plan::add_edge(RULES, &mut whole, &Edge { from, to, kind, gap, class }).expect("an edge");
+            }
+        }
+    }
+    let n = rng.range(12, 60);
+    add_labels(rng, &mut whole, n);
+    plan::seal(RULES, &mut whole, false).expect("sealing");
+    let readings = if rng.one_in(2) {
+        gen::trace(rng, lo, hi, n)
+    } else {
+        (0..n).map(|_| rng.range(lo - 1, hi + 1) as i16).collect()
+    };
+    Case {
+        plan: whole,
+        record: Record::plain(&readings),
+    }
+}
+
+/// Labels over n readings, often touching, with any c. Few ask for more changes than they have boundaries, and few last ones reach past the record.
+fn add_labels(rng: &mut Rng, whole: &mut Plan, n: i64) {
+    let end = if rng.one_in(12) { n + 5 } else { n };
+    let mut p = rng.range(1, 4);
+    while p < n {
+        let q = (p + rng.range(1, 14)).min(end);
+        let any = rng.range(0, 9);
+        let c = if any <= 7 && !rng.one_in(8) { any.min(q - p) } else { any };
+        plan::add_label(RULES, whole, p as u16, q as u16, c as u8).expect("a label");
+        p = q + rng.pick(&[0, 0, 1, 3, 9]);
+    }
 }
 
 /// Bytes set, inserted, removed or doubled at random places.
@@ -174,8 +244,10 @@ fn large(rng: &mut Rng, number: u64) -> Case {
         let gap = if kind <= plan::ANY { 0 } else { rng.range(0, levels / 4) as u16 };
         plan::add_edge(RULES, &mut whole, &Edge { from, to, kind, gap, class }).expect("an edge");
     }
-    plan::add_label(RULES, &mut whole, 10, 100, 1).expect("a label");
-    plan::add_label(RULES, &mut whole, 100, 120, 0).expect("a label");
+    let one = if kinds == [plan::UP, plan::DOWN] { 8 } else { 1 };
+    for (p, q, c) in [(10, 100, one), (100, 120, 0), (130, 170, rng.pick(&[2, 7]))] {
+        plan::add_label(RULES, &mut whole, p, q, c).expect("a label");
+    }
     plan::seal(RULES, &mut whole, false).expect("sealing");
     let readings = gen::trace(rng, lo, lo + levels - 1, n);
     Case {

@@ -1,7 +1,7 @@
 //! The questions of a case: each goes to both programs.
 use crate::cases::{self, Profile};
 use crate::files::{self, Reply};
-use crate::plan::Plan;
+use crate::plan::{Label, Plan};
 use crate::proved::{found_bytes, Call, Left, Outcome, Seen};
 use crate::rng::Rng;
 use crate::search::{self, Record, Run};
@@ -65,7 +65,11 @@ pub fn run_case(asker: &mut Asker, rng: &mut Rng, profile: Profile, case: u64) -
     whole_segment(asker, rng, &file, &read)?;
     match read {
         Ok((plan, record)) => sound_plan(asker, rng, &file, &plan, &record.readings, profile),
-        Err(number) => broken_plan(asker, rng, &file, number),
+        Err(number) => {
+            // only the c of a label is ever wrong there
+            asker.tally.labels.refused += u64::from(profile == Profile::Labelled);
+            broken_plan(asker, rng, &file, number)
+        }
     }
 }
 
@@ -173,6 +177,9 @@ fn sound_plan(asker: &mut Asker, rng: &mut Rng, file: &[u8], plan: &Plan, readin
         let part = part(rng, readings, 10 * most);
         point(asker, rng, file, plan, part)?;
     }
+    if profile == Profile::Labelled {
+        open_points(asker, rng, file, plan, readings)?;
+    }
     windows::ask(asker, rng, file, plan, readings, profile)
 }
 
@@ -199,8 +206,30 @@ fn write_plan(asker: &mut Asker, rng: &mut Rng, file: &[u8], plan: &Plan, readin
 fn searched(asker: &mut Asker, rng: &mut Rng, file: &[u8], plan: &Plan, readings: Vec<i16>, words: usize, room: usize) -> Checked {
     let need = need_of(plan);
     let found = search::search(RULES, plan, &Record::plain(&readings), words as u64, room as u64);
+    if found.is_ok() {
+        for label in &plan.labels {
+            asker.tally.labels.searched[label.code as usize] += 1;
+        }
+    }
     let oracle = found.map(|found| found_bytes(found.cost, &numbers_of(&found.runs)));
     asker.ask(rng, file, Call::Search { readings, need, words, room }, oracle)
+}
+
+/// Inside each label, after any of the readings between its ends, more often a late one: before it there may have been more changes.
+fn open_points(asker: &mut Asker, rng: &mut Rng, file: &[u8], plan: &Plan, readings: &[i16]) -> Checked {
+    for label in &plan.labels {
+        let (first, last) = (label.p as i64 + 1, (label.q as i64 - 1).min(readings.len() as i64));
+        if first <= last {
+            let n = rng.range(first, last).max(rng.range(first, last)) as usize;
+            point(asker, rng, file, plan, readings[..n].to_vec())?;
+        }
+    }
+    Ok(())
+}
+
+/// The label that is open after n readings.
+fn open_label(plan: &Plan, n: usize) -> Option<&Label> {
+    plan.labels.iter().find(|label| (label.p as usize) < n && n < label.q as usize)
 }
 
 /// A cost at a point, now and then of a state or level that there is not.
@@ -216,6 +245,9 @@ fn point(asker: &mut Asker, rng: &mut Rng, file: &[u8], plan: &Plan, readings: V
         _ => rng.range(lo, hi) as i16,
     };
     let cost = search::point(RULES, plan, &Record::plain(&readings), state as u64, level as i64, words as u64);
+    if let (Ok(_), Some(label)) = (cost, open_label(plan, readings.len())) {
+        asker.tally.labels.open[label.code as usize] += 1;
+    }
     let oracle = cost.map(|cost| cost.to_be_bytes().to_vec());
     asker.ask(
         rng,
@@ -327,8 +359,8 @@ mod tests {
     fn a_changed_answer_is_a_difference() {
         let plan = files::read_plan(RULES, &PLAN).expect("a plan").0;
         let record = Record::plain(&[3, 4, 6]);
-        let (readings, need, words) = (record.readings.clone(), 480, 485);
-        let found = search::search(RULES, &plan, &record, 480, 15).expect("an answer");
+        let (readings, need, words) = (record.readings.clone(), 1_920, 1_925);
+        let found = search::search(RULES, &plan, &record, 1_920, 15).expect("an answer");
         let call = Call::Search {
             readings: readings.clone(),
             need,
@@ -336,7 +368,7 @@ mod tests {
             room: 17,
         };
         every_change_is_found(call, found_bytes(found.cost, &numbers_of(&found.runs)));
-        let costs = search::window(RULES, &plan, &record, 2, 480, 2).expect("costs");
+        let costs = search::window(RULES, &plan, &record, 2, 1_920, 2).expect("costs");
         let call = Call::Windows {
             record: readings,
             w: 2,

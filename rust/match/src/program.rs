@@ -88,11 +88,29 @@ fn record(n: usize) -> Vec<i16> {
 
 #[test]
 fn states_times_levels() {
-    for (states, levels) in [(1, 160), (2, 80), (8, 20)] {
+    for (states, levels) in [(1, 40), (2, 20), (5, 8), (8, 5)] {
         assert!(runs(&answer(&with_readings(plan(states, levels, &[STAY, ANY]), &record(60)))) > 10);
     }
-    for (states, levels) in [(1, 161), (7, 23), (8, 21)] {
+    for (states, levels) in [(1, 41), (2, 21), (6, 7), (8, 6)] {
         assert_eq!(answer(&with_readings(plan(states, levels, &[STAY, ANY]), &record(60))), refusal(14));
+    }
+}
+
+/// As many states and levels as there is room for, with a label of each c over 20 boundaries.
+#[test]
+fn labels() {
+    let of = |c| {
+        let mut file = plan(2, 20, &[STAY, ANY, UP, DOWN]);
+        put_field(&mut file, 0x04, &[0, 20, 0, 40, c]);
+        answer(&with_readings(file, &record(60)))
+    };
+    let found: Vec<Vec<u8>> = (0..10).map(of).collect();
+    for (c, answer) in found.iter().enumerate() {
+        assert!(runs(answer) > 10);
+        assert!(!found[..c].contains(answer), "c = {c} makes no difference");
+    }
+    for c in [10, 11, 255] {
+        assert_eq!(of(c), refusal(8));
     }
 }
 
@@ -103,15 +121,15 @@ fn readings() {
     assert_eq!(of(30, 3_201), refusal(15));
     assert_eq!(of(30, 4_096), refusal(15));
     // 14 comes before 15: the readings have room, the run numbers have not
-    assert_eq!(of(161, 4_096), refusal(14));
-    assert_eq!(of(161, 4_097), refusal(9));
+    assert_eq!(of(41, 4_096), refusal(14));
+    assert_eq!(of(41, 4_097), refusal(9));
     assert_eq!(of(30, 0), refusal(9));
 }
 
 /// Without a stay every reading is a run.
 #[test]
 fn as_many_runs_as_there_is_room_for() {
-    for (states, levels) in [(1, 160), (8, 20)] {
+    for (states, levels) in [(1, 40), (8, 5)] {
         let file = with_readings(plan(states, levels, &[ANY]), &record(3_200));
         assert_eq!(runs(&answer(&file)), 3_200);
     }
@@ -120,9 +138,9 @@ fn as_many_runs_as_there_is_room_for() {
 /// The longest plan file has 9,008 bytes, and a field behind its readings is judged by three more.
 #[test]
 fn files_longer_than_a_plan() {
-    let mut longest = plan(8, 20, &[STAY, ANY, UP, DOWN]);
+    let mut longest = plan(8, 5, &[STAY, ANY, UP, DOWN]);
     for p in 1..=64u8 {
-        put_field(&mut longest, 0x04, &[0, p, 0, p + 1, 0]);
+        put_field(&mut longest, 0x04, &[0, p, 0, p + 1, p % 10]);
     }
     let longest = with_readings(longest, &record(4_096));
     assert_eq!(longest.len(), 9_008);

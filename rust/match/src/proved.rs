@@ -6,7 +6,7 @@ use yeldaski::{Answer, Refusal};
 /// What a call gave, as bytes that can be compared, or its refusal.
 pub type Outcome = Result<Vec<u8>, u8>;
 
-/// A call with all that it is given. `need` is 48 S L.
+/// A call with all that it is given. `need` is 192 S L.
 #[derive(Clone)]
 pub enum Call {
     Segment {

@@ -8,8 +8,52 @@ struct Count {
     refused: BTreeMap<u8, u64>,
 }
 
+/// Every c that a label may have.
+const CS: usize = 10;
+
+/// Labels in answers that were compared, by their c.
+#[derive(Default)]
+pub struct Labels {
+    /// Costs at a point inside the open label.
+    pub open: [u64; CS],
+    /// Segmentations found by a search, once for each label of the plan.
+    pub searched: [u64; CS],
+    /// Files refused with 8 for a c above 9.
+    pub refused: u64,
+}
+
+impl Labels {
+    /// What never occurred.
+    pub fn missing(&self) -> Vec<String> {
+        let mut missing = vec![];
+        for c in 0..CS {
+            if self.open[c] == 0 {
+                missing.push(format!("a point inside an open label of c = {c}"));
+            }
+            if self.searched[c] == 0 {
+                missing.push(format!("a search with a label of c = {c}"));
+            }
+        }
+        if self.refused == 0 {
+            missing.push("a label of c above 9".into());
+        }
+        missing
+    }
+}
+
+impl fmt::Display for Labels {
+    fn fmt(&self, f: &mut fmt::Formatter<'_>) -> fmt::Result {
+        for (name, counts) in [("open at a point", &self.open), ("in a search", &self.searched)] {
+            let counts: Vec<String> = counts.iter().enumerate().map(|(c, times)| format!("{c}: {times}")).collect();
+            writeln!(f, "labels {name}, by c {}", counts.join(" "))?;
+        }
+        writeln!(f, "labels of c above 9, refused {}", self.refused)
+    }
+}
+
 #[derive(Default)]
 pub struct Tally {
+    pub labels: Labels,
     cases: BTreeMap<&'static str, u64>,
     calls: BTreeMap<&'static str, Count>,
 }
@@ -40,6 +84,7 @@ impl fmt::Display for Tally {
             writeln!(f)?;
             all += count.answered + count.refused.values().sum::<u64>();
         }
+        write!(f, "{}", self.labels)?;
         let cases: Vec<String> = self.cases.iter().map(|(name, times)| format!("{name} {times}")).collect();
         write!(
             f,
@@ -47,5 +92,25 @@ impl fmt::Display for Tally {
             self.cases.values().sum::<u64>(),
             cases.join(", ")
         )
+    }
+}
+
+#[cfg(test)]
+mod tests {
+    use super::*;
+
+    #[test]
+    fn what_never_occurred_is_named() {
+        let mut labels = Labels {
+            open: [1; CS],
+            searched: [1; CS],
+            refused: 1,
+        };
+        assert!(labels.missing().is_empty());
+        labels.open[7] = 0;
+        assert_eq!(labels.missing(), ["a point inside an open label of c = 7"]);
+        labels.searched[9] = 0;
+        labels.refused = 0;
+        assert_eq!(labels.missing().len(), 3);
     }
 }

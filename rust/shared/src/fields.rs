@@ -84,10 +84,10 @@ pub fn edge(from: u8, to: u8, kind: u8, gap: u16, class: u8) -> Vec<u8> {
     encode(0x03, &[from, to, kind, gap[0], gap[1], class])
 }
 
-/// A label, field 04.
-pub fn label(p: u16, q: u16, count: u8) -> Vec<u8> {
+/// A label, field 04; `c` is a number of changes up to 7, 8 for one up, 9 for one down.
+pub fn label(p: u16, q: u16, c: u8) -> Vec<u8> {
     let (p, q) = (p.to_be_bytes(), q.to_be_bytes());
-    encode(0x04, &[p[0], p[1], q[0], q[1], count])
+    encode(0x04, &[p[0], p[1], q[0], q[1], c])
 }
 
 /// Readings, field 05. A length has two bytes, so the list is cut where it no longer fits; the reader refuses long before.

@@ -28,7 +28,7 @@ pub enum Answer {
 /// The words of 64 bits that a search, a cost at a point or a moving window needs for so many states (1 to 8) and levels (1 to 1,024). A product that
 /// does not fit gives `usize::MAX`, which is more than can be lent.
 pub fn work_words(states: usize, levels: usize) -> usize {
-    states.saturating_mul(levels).saturating_mul(48)
+    states.saturating_mul(levels).saturating_mul(192)
 }
 
 /// Decodes the readings of a plan file to the front of `readings` and gives their number.
@@ -56,8 +56,9 @@ pub fn search(file: &[u8], readings: &[i16], workspace: &mut [u64], runs: &mut [
     Ok(Found { cost: o.cost, runs: o.count })
 }
 
-/// The least cost of the segmentations of `readings` that end in the named state at the named level. The end set is ignored, and a label that is
-/// still open at the last reading allows at most as many changes as it asks for.
+/// The least cost of the segmentations of `readings` that end in the named state at the named level. The end set is ignored. Of the labels
+/// (p, q, c) those with q up to the last reading hold; one that is still open there (p before it, q behind it) allows at most c changes so far for c up
+/// to 7, and at most one for 8 and 9, which then has kind 2 (up) or 3 (down); later ones are ignored.
 ///
 /// Refusals: those of the plan reader, then 9, 5 (state), 4 (level), 14, 16. `workspace` afterwards is as with [`search`].
 pub fn point(file: &[u8], readings: &[i16], state: u8, level: i16, workspace: &mut [u64]) -> Result<u64, Refusal> {

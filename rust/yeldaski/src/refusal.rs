@@ -22,13 +22,13 @@ fn sentence(number: u8) -> &'static str {
         5 => "S not 1 to 8, an empty mask, a mask bit at or above S, or a named state not below S",
         6 => "edge state not below S, kind above 4, gap above 1,023 or set for kind 0 or 1, class above 15",
         7 => "same from, to and kind as an earlier edge",
-        8 => "p = 0, q ≤ p, q above 4,096 or c above 1",
+        8 => "p = 0, q ≤ p, q above 4,096 or c above 9",
         9 => "no readings or more than 4,096 (for a moving window more than 65,535)",
         10 => "a 33rd edge or a 65th label",
         11 => "an edge after a label, an addition or sealing after sealing, or a search, point, moving window or writing with an unsealed plan",
         12 => "label starts before the earlier one's q",
         13 => "a label's q above n",
-        14 => "workspace under 48 × S × L words of 64 bits",
+        14 => "workspace under 192 × S × L words of 64 bits, S the count of states, L = hi − lo + 1",
         15 => "a buffer under 5 × n run numbers (for the answer reader 5 a run read), or too short for the bytes, readings or costs to be written",
         16 => {
             "no allowed segmentation exists; for a cost at a point, none that it may count (the end set ignored) ends in the named state at \

@@ -3,6 +3,7 @@ use std::path::Path;
 use std::process::Command;
 
 const EXPECTED: &str = "\
+most words: 1572864
 readings: refusal 0, cost 0, count 2
 plan: refusal 0, cost 0, count 38
 same: 1

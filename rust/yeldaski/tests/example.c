@@ -3,6 +3,9 @@
 #include <string.h>
 #include "yeldaski.h"
 
+/* One state and ten levels. */
+#define WORDS YELDASKI_WORDS(1, 10)
+
 static const uint8_t plan[] = {0x01, 0, 4, 0, 0, 0, 9, 0x02, 0, 3, 1, 1, 1, 0x03, 0, 6, 0, 0, 0, 0, 0, 0,
                                0x03, 0, 6, 0, 0, 1, 0, 0, 4, 0x05, 0, 4, 0, 3, 0, 4};
 
@@ -19,7 +22,7 @@ static void print_bytes(const uint8_t *bytes, size_t count) {
 static void moving_window(const int16_t *record, uint64_t *workspace) {
     for (size_t w = 0; w <= 3; w++) {
         uint64_t costs[3] = {7, 8, 9};
-        yeldaski_outcome o = yeldaski_windows(plan, sizeof plan, record, 2, w, workspace, YELDASKI_WORDS(1, 10), costs, 3);
+        yeldaski_outcome o = yeldaski_windows(plan, sizeof plan, record, 2, w, workspace, WORDS, costs, 3);
         show("windows", &o);
         for (size_t i = 0; i < 3; i++) printf("%llu%c", (unsigned long long)costs[i], i < 2 ? ' ' : '\n');
     }
@@ -41,14 +44,14 @@ static void no_lists(int16_t *readings, uint64_t *workspace, int32_t *runs) {
         yeldaski_read_plan(plan, sizeof plan, NULL, 0),
         yeldaski_write_plan(plan, sizeof plan, NULL, 0, out, sizeof out),
         yeldaski_write_plan(plan, sizeof plan, readings, 2, NULL, 0),
-        yeldaski_search(plan, sizeof plan, NULL, 0, workspace, 480, runs, 10),
+        yeldaski_search(plan, sizeof plan, NULL, 0, workspace, WORDS, runs, 10),
         yeldaski_search(plan, sizeof plan, readings, 2, NULL, 0, runs, 10),
-        yeldaski_search(plan, sizeof plan, readings, 2, workspace, 480, NULL, 0),
-        yeldaski_point(plan, sizeof plan, NULL, 0, 0, 5, workspace, 480),
+        yeldaski_search(plan, sizeof plan, readings, 2, workspace, WORDS, NULL, 0),
+        yeldaski_point(plan, sizeof plan, NULL, 0, 0, 5, workspace, WORDS),
         yeldaski_point(plan, sizeof plan, readings, 2, 0, 5, NULL, 0),
-        yeldaski_windows(plan, sizeof plan, NULL, 0, 1, workspace, 480, costs, 2),
+        yeldaski_windows(plan, sizeof plan, NULL, 0, 1, workspace, WORDS, costs, 2),
         yeldaski_windows(plan, sizeof plan, readings, 2, 1, NULL, 0, costs, 2),
-        yeldaski_windows(plan, sizeof plan, readings, 2, 1, workspace, 480, NULL, 0),
+        yeldaski_windows(plan, sizeof plan, readings, 2, 1, workspace, WORDS, NULL, 0),
         yeldaski_write_answer(0, runs, 5, NULL, 0),
     };
     printf("none:");
@@ -61,18 +64,19 @@ static void no_lists(int16_t *readings, uint64_t *workspace, int32_t *runs) {
 }
 
 int main(void) {
-    static uint64_t workspace[YELDASKI_WORDS(1, 10)];
+    static uint64_t workspace[WORDS];
     int16_t readings[2];
     int32_t runs[10], again[5];
     uint8_t out[64];
+    printf("most words: %zu\n", YELDASKI_WORDS(8, 1024));
     yeldaski_outcome o = yeldaski_read_plan(plan, sizeof plan, readings, 2);
     show("readings", &o);
     o = yeldaski_write_plan(plan, sizeof plan, readings, 2, out, sizeof out);
     show("plan", &o);
     printf("same: %d\n", o.count == sizeof plan && memcmp(out, plan, sizeof plan) == 0);
-    o = yeldaski_point(plan, sizeof plan, readings, 1, 0, 5, workspace, 480);
+    o = yeldaski_point(plan, sizeof plan, readings, 1, 0, 5, workspace, WORDS);
     show("point", &o);
-    o = yeldaski_search(plan, sizeof plan, readings, 2, workspace, 480, runs, 10);
+    o = yeldaski_search(plan, sizeof plan, readings, 2, workspace, WORDS, runs, 10);
     show("search", &o);
     o = yeldaski_write_answer(o.cost, runs, 5 * o.count, out, sizeof out);
     show("answer", &o);
@@ -83,7 +87,7 @@ int main(void) {
     show("refusal", &o);
     r = yeldaski_read_answer(out, o.count, again, 0);
     printf("read: refusal %u, held %u, cost %llu, count %zu\n", r.refusal, r.held, (unsigned long long)r.cost, r.count);
-    o = yeldaski_segment(plan, sizeof plan, readings, 2, workspace, 480, runs, 10, out, sizeof out);
+    o = yeldaski_segment(plan, sizeof plan, readings, 2, workspace, WORDS, runs, 10, out, sizeof out);
     show("segment", &o);
     print_bytes(out, o.count);
     moving_window(readings, workspace);

@@ -32,6 +32,29 @@ fn toy_data_with_labels() {
     assert_eq!(found(&plan_a(0, 4, 1).label(2, 3, 1), &TOY), Ok((3, three)));
 }
 
+/// Plan B on 1, 5, 5, 1 with these labels.
+fn humps(end: u8, labels: &[(u16, u16, u8)]) -> Searched {
+    let plan = labels.iter().fold(plan_b(end, 0), |plan, (p, q, c)| plan.label(*p, *q, *c));
+    found(&plan, &[1, 5, 5, 1])
+}
+
+/// Ticket 2: several changes, one up, one down.
+#[test]
+fn labels_of_several_changes_and_of_one_kind() {
+    let four = [run(1, 1, 2, 255), run(2, 2, 1, 1), run(3, 3, 0, 1), run(4, 4, 4, 1)].concat();
+    assert_eq!(found(&plan_a(0, 4, 1).label(1, 4, 3), &TOY), Ok((3, four)));
+    for c in [4, 7, 8, 9] {
+        // there are three boundaries, and no edge goes up or down
+        assert_eq!(found(&plan_a(0, 4, 1).label(1, 4, c), &TOY), Err(16), "{c}");
+    }
+    let hump = vec![1, 1, 0, 1, 255, 2, 3, 1, 5, 2, 4, 4, 0, 1, 3];
+    assert_eq!(humps(1, &[(1, 2, 8), (3, 4, 9)]), Ok((1, hump)));
+    assert_eq!(humps(1, &[(2, 3, 8)]), Ok((9, vec![1, 2, 0, 3, 255, 3, 3, 1, 5, 2, 4, 4, 0, 1, 3])));
+    assert_eq!(humps(1, &[(1, 4, 8)]), Err(16));
+    assert_eq!(humps(3, &[(1, 4, 8)]), Ok((12, vec![1, 1, 0, 1, 255, 2, 4, 1, 4, 2])));
+    assert_eq!(humps(3, &[(1, 4, 9)]), Err(16));
+}
+
 #[test]
 fn cost_at_a_point() {
     let plan = plan_a(0, 4, 1);
@@ -80,6 +103,6 @@ fn whole_file() {
     let answer = vec![0x81, 0, 8, 0, 0, 0, 0, 0, 0, 0, 1, 0x82, 0, 8, 0, 1, 0, 2, 0, 0, 3, 0xFF];
     let readings = read_plan(&plan, 2).unwrap();
     assert_eq!(readings, [3, 4]);
-    let (cost, runs) = search(&plan, &readings, 480, 7_680, 16_000).unwrap();
+    let (cost, runs) = search(&plan, &readings, CELL * 10, 7_680, 16_000).unwrap();
     assert_eq!(write_answer(cost, &runs, 22), Ok(answer));
 }

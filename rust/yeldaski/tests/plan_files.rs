@@ -96,11 +96,20 @@ fn many_labels(count: u16) -> Plan {
 
 fn broken_labels() -> Vec<(u8, Vec<u8>)> {
     let a = plan_a(0, 4, 1);
-    let eight = [(0, 1, 0), (2, 2, 0), (3, 2, 0), (1, 4_097, 0), (1, 2, 2)];
+    let eight = [
+        (0, 1, 0),
+        (2, 2, 0),
+        (3, 2, 0),
+        (1, 4_097, 0),
+        (1, 2, 10),
+        (1, 2, 11),
+        (1, 2, 128),
+        (1, 2, 255),
+    ];
     let mut all: Vec<(u8, Vec<u8>)> = eight.iter().map(|l| (8, a.clone().label(l.0, l.1, l.2).file(&[0]))).collect();
     // 12: starts before the earlier label's q, after 8
     all.push((12, a.clone().label(1, 4, 0).label(3, 5, 0).file(&[0])));
-    all.push((8, a.label(1, 4, 0).label(3, 5, 2).file(&[0])));
+    all.push((8, a.label(1, 4, 0).label(3, 5, 10).file(&[0])));
     // 10: a 65th label, before 8 and 12
     all.push((10, many_labels(65).file(&[0])));
     all.push((10, many_labels(64).label(0, 0, 9).file(&[0])));
@@ -137,10 +146,10 @@ fn largest() -> (Plan, Vec<i16>) {
     let mut plan = many_edges(30).edge(7, 0, ABS, 1_023, 15).edge(0, 7, DOWN, 1_023, 15);
     (plan.lo, plan.hi, plan.start, plan.end) = (i16::MIN, i16::MIN + 1_023, 255, 255);
     for p in 1..64 {
-        plan = plan.label(p, p + 1, 0);
+        plan = plan.label(p, p + 1, (p % 10) as u8);
     }
     let readings = (0..4_096).map(|i| (i * 16 - 32_768) as i16).collect();
-    (plan.label(4_095, 4_096, 1), readings)
+    (plan.label(4_095, 4_096, 9), readings)
 }
 
 #[test]

@@ -85,9 +85,9 @@ fn with_wrong(wrong: usize, other: bool) -> Result<Vec<u64>, u8> {
     let mut file = plan.file(&[0]);
     file.truncate(file.len() - usize::from(has(1)));
     let wrong_w = if other { 1_025 } else { n + 1 };
-    let words = if !has(14) { 48 * 14 } else { (48 * 14 - 1) * usize::from(other) };
+    let words = if !has(14) { WORDS_B } else { (WORDS_B - 1) * usize::from(other) };
     let room = if !has(15) { n - w + 1 } else { (n - w) * usize::from(other) };
-    windows(&file, &record, if has(19) { wrong_w } else { w }, 48 * 14, words, room)
+    windows(&file, &record, if has(19) { wrong_w } else { w }, WORDS_B, words, room)
 }
 
 /// Whatever is wrong, the earliest number is given.

@@ -1,4 +1,4 @@
-use mathlib.Core.Path.{_∙_, sym, ap, refl}
+use mathlib.Core.Path.{refl}
 use native.Mathlib.Numerals.{add-one}
 use borrow.Author.Needs.{needs}
 use Rattle.labels.proofs.closes.Statement.{statement}
@@ -6,17 +6,19 @@ use Rattle.labels.proofs.closes.Tie as tie
 use Rattle.labels.proofs.closes.Reads as reads
 use Rattle.labels.proofs.closes.Lts as lts
 
--- src/lib.rt:75:5
 add-result : tie.Need-add-result
 add-result c = search needs
 
--- src/lib.rt:75:15
 cast-result : tie.Need-cast-result
 cast-result c = search needs
 
--- src/lib.rt:71:1
 returns : tie.Need-returns
 returns c = rw (add-one) refl
 
 pub closes-spec : {M : Type 1} → statement M
-closes-spec = tie.close (tie.spec add-result cast-result returns)
+closes-spec =
+    tie.close
+    (tie.spec
+    add-result
+    cast-result
+    returns)

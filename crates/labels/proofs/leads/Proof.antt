@@ -1,5 +1,3 @@
-use native.Mathlib.Omega.{arith}
-use mathlib.Core.Path.{_∙_, sym, ap, refl}
 use Rattle.labels.proofs.Counts.{leads-state, leads-not, leads-so}
 use borrow.Author.Needs.{needs}
 use Rattle.labels.proofs.leads.Statement.{statement}
@@ -10,31 +8,24 @@ use Rattle.labels.proofs.count_after.Reads as count-after-reads
 use Rattle.labels.proofs.count_before.Reads as count-before-reads
 use Rattle.labels.proofs.label_test.Reads as label-test-reads
 
--- src/lib.rt:135:14
 cast-if1 : tie.Need-cast-if1
 cast-if1 c = search needs
 
--- src/lib.rt:136:9
 returns : tie.Need-returns
 returns c = leads-state _ _ _ _ _ (c .if1 .taken)
 
--- src/lib.rt:139:9
 count-before-requires : tie.Need-count-before-requires
 count-before-requires c κs = search needs
 
--- src/lib.rt:140:8
 label-test-requires : tie.Need-label-test-requires
 label-test-requires c κs = search needs
 
--- src/lib.rt:141:14
 count-after-requires : tie.Need-count-after-requires
 count-after-requires c κs = search needs
 
--- src/lib.rt:131:1
 returns-2 : tie.Need-returns-2
 returns-2 c = leads-so _ _ _ _ _ (c .before .before .before .before .if1 .left) _ (c .before .before .before .count-before .ensures .0) _ (c .before .before .label-test .ensures) (c .before .if2 .taken) _ (c .count-after .ensures)
 
--- src/lib.rt:131:1
 returns-3 : tie.Need-returns-3
 returns-3 c = leads-not _ _ _ _ _ (c .before .before .before .if1 .left) _ (c .before .before .count-before .ensures .0) _ (c .before .label-test .ensures) (c .if2 .left)
 

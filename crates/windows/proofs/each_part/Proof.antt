@@ -1,6 +1,6 @@
 use Rattle.windows.proofs.Fills.{Costed, cut-space, cut-none, cut-some, costed-none, costed-more, filled-none, filled-all}
 use Rattle.saved.proofs.Chains.{inside-refl, inside-then}
-use Rattle.saved.specs.Walk.{limit}
+use Rattle.saved.specs.Walk.{limit, tableSize}
 use Rattle.saved.specs.Packed.{Inside}
 use lib.ListN.{length}
 use mathlib.Core.Path.{_≡_, sym, _∙_}
@@ -14,7 +14,7 @@ use Rattle.windows.proofs.each_part.Lts as lts
 use Rattle.search.proofs.cheapest.Reads as cheapest-reads
 
 abbrev Inv-loop : tie.InvT-loop
-Inv-loop ws₀ plan code «record» w g table₀ costs₀ last a₀ ws table costs a = (a ≤ last + 1) × (Inside 0 (limit plan) ws₀ ws × ((length table ≡ 193) × Costed plan «record» w a costs₀ costs))
+Inv-loop ws₀ plan code «record» w g table₀ costs₀ last a₀ ws table costs a = (a ≤ last + 1) × (Inside 0 (limit plan) ws₀ ws × ((length table ≡ tableSize) × Costed plan «record» w a costs₀ costs))
 
 abbrev μ-loop : tie.MeasureT-loop
 μ-loop ws₀ plan code «record» w g table₀ costs₀ last a₀ ws table costs a = last + 1 - a

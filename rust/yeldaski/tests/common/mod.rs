@@ -10,6 +10,12 @@ pub const UP: u8 = 2;
 pub const DOWN: u8 = 3;
 pub const ABS: u8 = 4;
 
+/// Words of workspace for each state and level, by ticket 2.
+pub const CELL: usize = 192;
+/// Those of plan A on the grid 0..4, and of plan B, which has two states and seven levels.
+pub const WORDS_A: usize = CELL * 5;
+pub const WORDS_B: usize = CELL * 14;
+
 /// A field of a plan file or an answer file.
 pub fn field(tag: u8, body: &[u8]) -> Vec<u8> {
     let length = (body.len() as u16).to_be_bytes();
@@ -114,7 +120,7 @@ fn cleared(workspace: &[u64], need: usize) {
 
 pub type Searched = Result<(u64, Vec<i32>), u8>;
 
-/// A search with so many words and run numbers lent; `need` is 48 S L.
+/// A search with so many words and run numbers lent; `need` is `CELL` times S times L.
 pub fn search(file: &[u8], readings: &[i16], need: usize, words: usize, room: usize) -> Searched {
     let (mut workspace, mut runs) = (dirty(words), dirty(room));
     let result = yeldaski::search(file, readings, &mut workspace, &mut runs);
@@ -132,7 +138,7 @@ pub fn point(file: &[u8], readings: &[i16], state: u8, level: i16, need: usize, 
     result.map_err(|r| r.0)
 }
 
-/// A moving window with so many words and costs lent; `need` is 48 S L.
+/// A moving window with so many words and costs lent; `need` as above.
 pub fn windows(file: &[u8], record: &[i16], w: usize, need: usize, words: usize, room: usize) -> Result<Vec<u64>, u8> {
     let mut workspace = dirty(words);
     let mut refusal = None;
