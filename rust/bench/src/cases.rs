@@ -37,8 +37,11 @@ pub fn usual() -> Vec<Case> {
         let mut add = |name: &str, plan: Plan| cases.push(traced(name, plan, LONGEST));
         add("any", any(levels, class));
         add("any, class 2", any(levels, 2));
-        add("any, 16 labels", with_labels(any(levels, class), LONGEST));
+        let labels = |plan: Plan, cs: &[usize]| with_labels(plan, LONGEST, cs);
+        add("any, 16 labels", labels(any(levels, class), &[0, 1]));
+        add("any, 16 labels of 3 changes", labels(any(levels, class), &[3]));
         add("up-down", up_down(levels, class));
+        add("up-down, 16 labels up, down", labels(up_down(levels, class), &[8, 9]));
         add("up-down, class 0", up_down(levels, 0));
         add("belt, 3 states", belt(levels, class, g));
         add("ring, 4 states", ring(levels, 4, class, g));

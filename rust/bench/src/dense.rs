@@ -5,7 +5,7 @@ use crate::piece::NONE;
 struct Dense<'a> {
     plan: &'a Plan,
     levels: usize,
-    /// Counts of changes that are told apart: one without labels, else two.
+    /// The most counts of changes that are told apart at a boundary; a row has room for so many.
     counts: usize,
     prefix: Vec<i64>,
     suffix: Vec<i64>,
@@ -18,7 +18,7 @@ struct Dense<'a> {
 impl<'a> Dense<'a> {
     fn new(plan: &'a Plan) -> Dense<'a> {
         let levels = plan.levels();
-        let counts = if plan.labels.is_empty() { 1 } else { 2 };
+        let counts = plan.labels.iter().map(|l| counts_at(plan, l.p)).max().unwrap_or(1);
         let need =
             |test: fn(Kind) -> bool| -> Vec<bool> { (0..plan.states).map(|s| plan.edges.iter().any(|e| e.from == s && test(e.kind))).collect() };
         Dense {
@@ -50,9 +50,8 @@ impl<'a> Dense<'a> {
     }
 
     /// Running minima and least values of the row before, as far as some edge asks for them.
-    fn prepare(&mut self, mode: Mode, cur: &[i64]) {
-        let used = if mode == Mode::Free { 1 } else { self.counts };
-        for j in 0..used * self.plan.states {
+    fn prepare(&mut self, boundary: usize, cur: &[i64]) {
+        for j in 0..counts_at(self.plan, boundary) * self.plan.states {
             let s = j % self.plan.states;
             let range = j * self.levels..(j + 1) * self.levels;
             let f = &cur[range.clone()];
@@ -71,8 +70,8 @@ impl<'a> Dense<'a> {
     fn step(&mut self, boundary: usize, cur: &[i64], next: &mut [i64], x: i64) {
         let (levels, states) = (self.levels, self.plan.states);
         let mode = mode_at(self.plan, boundary);
-        self.prepare(mode, cur);
-        for j in 0..self.counts * states {
+        self.prepare(boundary, cur);
+        for j in 0..counts_at(self.plan, boundary + 1) * states {
             let (k, s) = (j / states, j % states);
             let out = &mut next[j * levels..(j + 1) * levels];
             out.fill(NONE);

@@ -111,14 +111,14 @@ pub fn full_up(levels: i64, g: i64) -> Plan {
     }
 }
 
-/// The plan with sixteen labels over n readings, by turns without a change and with one.
-pub fn with_labels(mut plan: Plan, n: usize) -> Plan {
+/// The plan with sixteen labels over n readings, which ask for these c by turns.
+pub fn with_labels(mut plan: Plan, n: usize, cs: &[usize]) -> Plan {
     let q = n / 16;
     plan.labels = (0..16)
         .map(|i| Label {
             p: 1 + i * q,
             q: (i + 1) * q,
-            c: i % 2,
+            c: cs[i % cs.len()],
         })
         .collect();
     plan

@@ -23,7 +23,7 @@ impl Frame {
     }
 
     pub fn layer_words(self) -> usize {
-        2 * self.states * P * self.levels
+        COUNTS * self.states * P * self.levels
     }
 
     pub fn list(self, base: usize, k: usize, s: usize) -> usize {
@@ -40,7 +40,7 @@ impl Frame {
     }
 
     pub fn words(self) -> usize {
-        48 * self.states * self.levels
+        192 * self.states * self.levels
     }
 }
 

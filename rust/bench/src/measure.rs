@@ -28,6 +28,16 @@ struct Buffers {
     runs: Vec<i32>,
 }
 
+impl Buffers {
+    fn of(case: &Case) -> Buffers {
+        Buffers {
+            file: case.plan.file(),
+            workspace: vec![0; yeldaski::work_words(case.plan.states, case.plan.levels())],
+            runs: vec![0; 5 * case.readings.len()],
+        }
+    }
+}
+
 /// Calls, and keeps the time where it is the least.
 pub fn time<R>(least: &mut f64, call: impl FnOnce() -> R) {
     let start = clock::now();
@@ -38,12 +48,7 @@ pub fn time<R>(least: &mut f64, call: impl FnOnce() -> R) {
 /// Runs all calls in turn, so that a busy moment of the machine does not fall on one of them only, and keeps the least time of each.
 pub fn measure(case: &Case, repeats: usize) -> Measured {
     let (plan, z) = (&case.plan, &case.readings[..]);
-    let words = yeldaski::work_words(plan.states, plan.levels());
-    let mut b = Buffers {
-        file: plan.file(),
-        workspace: vec![0; words],
-        runs: vec![0; 5 * z.len()],
-    };
+    let mut b = Buffers::of(case);
     let (answer, steps) = check(case, &mut b);
     let end = answer.runs[answer.runs.len() - 1];
     let (state, level) = (end.state, end.level);
@@ -99,4 +104,31 @@ fn check(case: &Case, b: &mut Buffers) -> (Answer, usize) {
         "{name}"
     );
     (answer, steps)
+}
+
+#[cfg(test)]
+mod tests {
+    use super::*;
+    use crate::graphs::{ring, trace, with_labels};
+
+    /// The programmes agree on the whole record, and on the cost at each point on the way: inside open labels, at their ends and between them.
+    #[test]
+    fn labels_of_every_c() {
+        let (n, levels) = (160, 24);
+        for c in 0..=9 {
+            let case = Case {
+                name: format!("labels of c = {c}"),
+                plan: with_labels(ring(levels, 3, 2, 2), n, &[c]),
+                readings: trace(n, levels),
+            };
+            let mut b = Buffers::of(&case);
+            check(&case, &mut b);
+            for t in 1..n {
+                let z = &case.readings[..t];
+                let proved = yeldaski::point(&b.file, z, 1, 0, &mut b.workspace);
+                let rust = search::point(&mut b.workspace, &case.plan, z, 1, 0);
+                assert_eq!(proved.ok(), rust.map(|cost| cost as u64), "{} after {t} readings", case.name);
+            }
+        }
+    }
 }

@@ -18,12 +18,34 @@ pub struct Edge {
     pub class: usize,
 }
 
-/// Exactly `c` changes at boundaries p to q - 1.
+/// What c asks for at boundaries p to q - 1: up to 7 exactly so many changes, 8 exactly one change, which goes up, 9 exactly one, which goes down.
 #[derive(Clone, Copy, Debug)]
 pub struct Label {
     pub p: usize,
     pub q: usize,
     pub c: usize,
+}
+
+/// The most counts of changes that are kept apart inside an open label: 0 to 7.
+pub const COUNTS: usize = 8;
+
+/// How many changes a label of c needs.
+fn need(c: usize) -> usize {
+    match c {
+        8 | 9 => 1,
+        _ => c,
+    }
+}
+
+/// What this kind of edge adds to the count inside a label of c: 2, so more than is ever allowed, for a change of another kind than 8 or 9 ask for.
+#[inline(always)]
+fn counts_as(c: usize, kind: Kind) -> usize {
+    match (c, kind) {
+        (_, Kind::Stay) => 0,
+        (8, Kind::Up(_)) | (9, Kind::Down(_)) => 1,
+        (8 | 9, _) => 2,
+        _ => 1,
+    }
 }
 
 #[derive(Clone, Debug)]
@@ -70,7 +92,7 @@ impl Plan {
     }
 }
 
-/// How a boundary treats the count of changes inside a label.
+/// How a boundary treats the count of changes inside a label, with the label's c.
 #[derive(Clone, Copy, Debug, PartialEq)]
 pub enum Mode {
     Free,
@@ -90,23 +112,18 @@ pub fn mode_at(plan: &Plan, boundary: usize) -> Mode {
 pub fn counts_at(plan: &Plan, t: usize) -> usize {
     match mode_at(plan, t) {
         Mode::Free => 1,
-        Mode::Inside(c) | Mode::Closes(c) => c + 1,
+        Mode::Inside(c) | Mode::Closes(c) => need(c) + 1,
     }
 }
 
 /// The count before a boundary from which count `k` after it is reached over this kind of edge.
 #[inline(always)]
 pub fn count_before(mode: Mode, k: usize, kind: Kind) -> Option<usize> {
-    let count = match mode {
-        Mode::Free => return if k == 0 { Some(0) } else { None },
-        Mode::Inside(c) if k <= c => k,
-        Mode::Closes(c) if k == 0 => c,
-        _ => return None,
-    };
-    if kind == Kind::Stay {
-        Some(count)
-    } else {
-        count.checked_sub(1)
+    match mode {
+        Mode::Free if k == 0 => Some(0),
+        Mode::Inside(c) if k <= need(c) => k.checked_sub(counts_as(c, kind)),
+        Mode::Closes(c) if k == 0 => need(c).checked_sub(counts_as(c, kind)),
+        _ => None,
     }
 }
 

@@ -17,7 +17,7 @@ pub struct Piece {
 #[inline(always)]
 fn get(ws: &[u64], i: usize) -> u64 {
     debug_assert!(i < ws.len());
-    // Sound: all lists lie within the 48 S L words of the workspace; runs of the debug build bear it out.
+    // Sound: all lists lie within the 192 S L words of the workspace; runs of the debug build bear it out.
     unsafe { *ws.get_unchecked(i) }
 }
 

@@ -3,9 +3,9 @@ use crate::layer::*;
 use crate::list::*;
 use crate::model::*;
 
-pub const SLOTS: usize = 96;
+pub const SLOTS: usize = 1_024;
 
-/// Entry i: the layer after `time[i]` readings in the words off[i] .. off[i + 1].
+/// Entry i: the layer after `time[i]` readings in the words off[i] .. off[i + 1]. It stands in the frame of a call and is lent to every step.
 pub struct Saved {
     pub count: usize,
     pub time: [usize; SLOTS],
@@ -13,12 +13,18 @@ pub struct Saved {
 }
 
 impl Saved {
-    pub fn empty(first: usize) -> Saved {
+    pub fn new() -> Saved {
         Saved {
             count: 0,
             time: [0; SLOTS],
-            off: [first; SLOTS + 1],
+            off: [0; SLOTS + 1],
         }
+    }
+
+    /// Nothing is saved, and the first layer goes to the words from `first` on.
+    pub fn empty(&mut self, first: usize) {
+        self.count = 0;
+        self.off[0] = first;
     }
 }
 
@@ -27,14 +33,14 @@ fn layer_length(ws: &[u64], fr: Frame, plan: &Plan, cur: usize, t: usize) -> usi
     (0..counts_at(plan, t) * fr.states).map(|j| length(ws, fr.list(cur, 0, j), fr.hi)).sum()
 }
 
-/// Slots that are free of so many, later layers taken as a quarter larger than the one at hand.
+/// Slots that are free of so many, later layers taken as large as the one at hand.
 pub fn free_slots(ws: &[u64], fr: Frame, plan: &Plan, saved: &Saved, cur: usize, t: usize, slots: usize) -> usize {
     if slots <= saved.count {
         return 0;
     }
-    let need = layer_length(ws, fr, plan, cur, t) * 5 / 4;
+    let words = layer_length(ws, fr, plan, cur, t);
     let free = fr.words() - saved.off[saved.count];
-    (free / need.max(1)).min(slots - saved.count)
+    (free / (words + 1)).min(slots - saved.count)
 }
 
 /// Saves the layer at `cur` as that after t readings, where there is room.

@@ -14,24 +14,26 @@ pub struct Stats {
 }
 
 /// The layer after `time` readings stands at `cur`.
-struct Walk {
+struct Walk<'a> {
     time: usize,
     cur: usize,
     other: usize,
-    saved: Saved,
+    saved: &'a mut Saved,
     steps: usize,
 }
 
-impl Walk {
-    /// At the first reading, with nothing saved.
-    fn start(fr: Frame) -> Walk {
-        Walk {
-            time: 1,
-            cur: 0,
-            other: fr.layer_words(),
-            saved: Saved::empty(fr.saved()),
-            steps: 0,
-        }
+/// At the first reading, with nothing saved.
+fn begin<'a>(ws: &mut [u64], fr: Frame, plan: &Plan, z: &[i16], saved: &'a mut Saved) -> Walk<'a> {
+    // the words of all lists, which are read and written without index checks
+    assert!(fr.words() <= ws.len());
+    first_layer(ws, fr, plan, 0, z[0] as i64);
+    saved.empty(fr.saved());
+    Walk {
+        time: 1,
+        cur: 0,
+        other: fr.layer_words(),
+        saved,
+        steps: 0,
     }
 }
 
@@ -44,12 +46,12 @@ fn step(ws: &mut [u64], fr: Frame, plan: &Plan, z: &[i16], wk: &mut Walk) {
 
 /// Forward to t, with layers saved on the way in at most so many slots.
 fn advance(ws: &mut [u64], fr: Frame, plan: &Plan, z: &[i16], wk: &mut Walk, t: usize, slots: usize) {
-    let mut save_at = next_save(wk.time, t, free_slots(ws, fr, plan, &wk.saved, wk.cur, wk.time, slots));
+    let mut save_at = next_save(wk.time, t, free_slots(ws, fr, plan, wk.saved, wk.cur, wk.time, slots));
     while wk.time < t {
         step(ws, fr, plan, z, wk);
         if wk.time == save_at && wk.time < t {
-            save(ws, fr, plan, &mut wk.saved, wk.cur, wk.time);
-            save_at = next_save(wk.time, t, free_slots(ws, fr, plan, &wk.saved, wk.cur, wk.time, slots));
+            save(ws, fr, plan, wk.saved, wk.cur, wk.time);
+            save_at = next_save(wk.time, t, free_slots(ws, fr, plan, wk.saved, wk.cur, wk.time, slots));
         }
     }
 }
@@ -60,7 +62,7 @@ fn rewind(ws: &mut [u64], fr: Frame, plan: &Plan, z: &[i16], wk: &mut Walk, t: u
         wk.saved.count -= 1;
     }
     if wk.saved.count > 0 {
-        load(ws, fr, plan, &wk.saved, wk.cur);
+        load(ws, fr, plan, wk.saved, wk.cur);
         wk.time = wk.saved.time[wk.saved.count - 1];
     } else {
         first_layer(ws, fr, plan, wk.cur, z[0] as i64);
@@ -146,9 +148,8 @@ fn step_back(ws: &[u64], fr: Frame, plan: &Plan, boundary: usize, cur: usize, pt
     unreachable!("some edge meets the cost")
 }
 
-fn forward(ws: &mut [u64], fr: Frame, plan: &Plan, z: &[i16], slots: usize) -> Walk {
-    let mut wk = Walk::start(fr);
-    first_layer(ws, fr, plan, 0, z[0] as i64);
+fn forward<'a>(ws: &mut [u64], fr: Frame, plan: &Plan, z: &[i16], saved: &'a mut Saved, slots: usize) -> Walk<'a> {
+    let mut wk = begin(ws, fr, plan, z, saved);
     advance(ws, fr, plan, z, &mut wk, z.len(), slots);
     wk
 }
@@ -156,7 +157,8 @@ fn forward(ws: &mut [u64], fr: Frame, plan: &Plan, z: &[i16], slots: usize) -> W
 /// Cost at a point after all of z; the workspace is cleared, as the proved call does.
 pub fn point(ws: &mut [u64], plan: &Plan, z: &[i16], s: usize, m: i64) -> Option<i64> {
     let fr = Frame::of(plan);
-    let wk = forward(ws, fr, plan, z, 0);
+    let mut saved = Saved::new();
+    let wk = forward(ws, fr, plan, z, &mut saved, 0);
     let costs = (0..counts_at(plan, z.len())).map(|k| least_in(ws, fr.list(wk.cur, k, s), m, m, fr.lo).value);
     let least = costs.min().filter(|cost| *cost < NONE);
     ws.fill(0);
@@ -166,8 +168,9 @@ pub fn point(ws: &mut [u64], plan: &Plan, z: &[i16], s: usize, m: i64) -> Option
 /// The least cost of each part of w readings, by a pass forward for each; the workspace is cleared at the end, as the proved call does.
 pub fn windows(ws: &mut [u64], plan: &Plan, z: &[i16], w: usize) -> Vec<i64> {
     let fr = Frame::of(plan);
+    let mut saved = Saved::new();
     let costs = z.windows(w).map(|part| {
-        let wk = forward(ws, fr, plan, part, 0);
+        let wk = forward(ws, fr, plan, part, &mut saved, 0);
         best_end(ws, fr, plan, wk.cur).value
     });
     let costs = costs.collect();
@@ -178,7 +181,8 @@ pub fn windows(ws: &mut [u64], plan: &Plan, z: &[i16], w: usize) -> Vec<i64> {
 /// The search; the workspace is cleared, as the proved call does. Also the steps forward that it took.
 pub fn search(ws: &mut [u64], plan: &Plan, z: &[i16]) -> (Option<Answer>, usize) {
     let fr = Frame::of(plan);
-    let mut wk = forward(ws, fr, plan, z, SLOTS);
+    let mut saved = Saved::new();
+    let mut wk = forward(ws, fr, plan, z, &mut saved, SLOTS);
     let end = best_end(ws, fr, plan, wk.cur);
     let answer = (end.value < NONE).then(|| Answer {
         cost: end.value,
@@ -213,9 +217,9 @@ fn way_back(ws: &mut [u64], fr: Frame, plan: &Plan, z: &[i16], wk: &mut Walk, en
 /// One pass forward with its pieces counted, functions that are none everywhere aside.
 pub fn stats(ws: &mut [u64], plan: &Plan, z: &[i16]) -> Stats {
     let fr = Frame::of(plan);
-    let mut wk = Walk::start(fr);
+    let mut saved = Saved::new();
+    let mut wk = begin(ws, fr, plan, z, &mut saved);
     let mut stats = Stats::default();
-    first_layer(ws, fr, plan, 0, z[0] as i64);
     while wk.time < z.len() {
         step(ws, fr, plan, z, &mut wk);
         for j in 0..counts_at(plan, wk.time) * fr.states {
