@@ -2,8 +2,9 @@
 use crate::answer;
 use crate::check::counted;
 use crate::failure::sentence;
+use crate::label::{Label, MOST_CHANGES, ONE_DOWN, ONE_UP};
 use crate::locate::{agrees, is_cut, locate, Kind, Place};
-use crate::plan::{edge_of, label_of, with_labels, with_masks, Edge, Plan, KINDS, MAX_READINGS, MAX_RECORD, MAX_WINDOW};
+use crate::plan::{edge_of, with_c, with_labels, with_masks, Edge, Plan, KINDS, MAX_READINGS, MAX_RECORD, MAX_WINDOW};
 use shared::fields::{number, signed, Field};
 use yeldaski::Refusal;
 
@@ -192,19 +193,29 @@ fn same_edge(file: &[u8], place: &Place, edge: &Edge) -> Option<String> {
 }
 
 fn label(body: &[u8]) -> Option<String> {
-    let label = label_of(body);
+    let label = Label::of(body);
     let reasons = [
         (label.p == 0, "p is 0, but readings are counted from 1".to_string()),
         (label.q <= label.p, format!("q {} is not above p {}", label.q, label.p)),
         (usize::from(label.q) > MAX_READINGS, format!("q {} is above {MAX_READINGS}", label.q)),
-        (label.count > 1, format!("the count {} is above 1", label.count)),
+        (
+            label.c > ONE_DOWN,
+            format!(
+                "c {} is above {ONE_DOWN}: 0 to {MOST_CHANGES} ask for so many changes, {ONE_UP} for one up and {ONE_DOWN} for one down",
+                label.c
+            ),
+        ),
     ];
     reasons.into_iter().find(|(holds, _)| *holds).map(|(_, reason)| reason)
 }
 
 fn early_label(file: &[u8], place: &Place, body: &[u8]) -> Option<String> {
-    let before = label_of(&file[place.earlier(4).last()?.body.clone()]);
-    Some(format!("it starts at {}, but the label before it goes to {}", label_of(body).p, before.q))
+    let before = Label::of(&file[place.earlier(4).last()?.body.clone()]);
+    Some(format!(
+        "it ({}) starts before the label before it ({}) ends",
+        Label::of(body).text(),
+        before.text()
+    ))
 }
 
 fn run(file: &[u8], place: &Place, body: &[u8]) -> Option<String> {
@@ -241,14 +252,8 @@ fn label_index(plan: &Plan, number: usize) -> Option<usize> {
 
 fn long_label(plan: &Plan) -> Option<(Option<usize>, String)> {
     let count = plan.readings.len();
-    let at = plan.labels.iter().position(|label| usize::from(label.q) > count)?;
-    let (number, q) = (at + 1, plan.labels[at].q);
-    let last = if count == 1 {
-        "there is 1".to_string()
-    } else {
-        format!("there are {count}")
-    };
-    Some((label_index(plan, at), format!("label {number} goes to reading {q}, but {last}")))
+    let (at, beyond) = plan.labels.iter().enumerate().find_map(|(at, label)| Some((at, label.beyond(count)?)))?;
+    Some((label_index(plan, at), format!("label {} {beyond}", at + 1)))
 }
 
 /// Asks the search what it says with fewer labels and with wider masks, to name what leaves no segmentation.
@@ -263,8 +268,33 @@ fn no_segmentation(file: &[u8], plan: &Plan) -> (Option<usize>, String) {
     let at = others.partition_point(|count| !none(&with_labels(file, |index| index < *count)));
     let alone = none(&with_labels(file, |index| index == at));
     let together = if alone { "" } else { " together with the labels before it" };
-    let cause = format!("label {} ({}) cannot hold{together}", at + 1, plan.labels[at].text());
-    (label_index(plan, at), cause)
+    let label = &plan.labels[at];
+    let why = match hopeless(plan, label) {
+        Some(why) => format!(": {why}"),
+        None => format!("{together}; {}", possible(file, at, none)),
+    };
+    (label_index(plan, at), format!("label {} ({}) cannot hold{why}", at + 1, label.text()))
+}
+
+/// What the label with this number, from 0, could ask for instead, beside the labels before it.
+fn possible(file: &[u8], at: usize, none: impl Fn(&[u8]) -> bool) -> String {
+    let file = with_labels(file, |index| index <= at);
+    let holds = (0..=ONE_DOWN).filter(|c| !none(&with_c(&file, at, *c)));
+    let words: Vec<String> = holds.map(|c| Label { p: 0, q: 0, c }.asks()).collect();
+    if words.is_empty() {
+        return format!("every segmentation has more than {MOST_CHANGES} changes there");
+    }
+    format!("possible there: {}", words.join(", "))
+}
+
+/// Why a label holds in no record, where that can be read off the plan.
+fn hopeless(plan: &Plan, label: &Label) -> Option<String> {
+    let room = label.q - label.p;
+    match label.kind() {
+        Some(kind) if plan.edges.iter().all(|edge| edge.kind != kind) => Some(format!("no edge has the kind {}", KINDS[usize::from(kind)])),
+        None if u16::from(label.c) > room => Some(format!("there is room for {}", counted(usize::from(room), "change"))),
+        _ => None,
+    }
 }
 
 /// The same for a plan that has no segmentation even without its labels.

@@ -95,14 +95,34 @@ fn plan_lines(plan: &Plan, cost: u64, runs: usize) -> Vec<String> {
         (plan.labels.len(), "label"),
     ]
     .map(|(count, what)| counted(count, what));
-    vec![
+    let mut lines = vec![
         "plan file, good".to_string(),
         format!("grid {} to {}, {}", plan.lo, plan.hi, counted(plan.levels(), "level")),
         format!("{states}, {edges}, {labels}"),
+    ];
+    lines.extend(
+        plan.labels
+            .iter()
+            .enumerate()
+            .map(|(at, label)| format!("label {}: {}", at + 1, label.text())),
+    );
+    lines.extend([
         format!("{} from {least} to {most}", counted(plan.readings.len(), "reading")),
-        format!("workspace of a search: {} words", plan.work_words()),
+        workspace(plan.work_words()),
         format!("a search finds {} at cost {cost}", counted(runs, "run")),
-    ]
+    ]);
+    lines
+}
+
+/// The workspace that a search needs. The program `segment` lends a fixed one, so it is said where that is too small.
+fn workspace(words: usize) -> String {
+    const OF_SEGMENT: usize = 7680;
+    let more = if words > OF_SEGMENT {
+        format!(", more than the {OF_SEGMENT} of the program segment")
+    } else {
+        String::new()
+    };
+    format!("workspace of a search: {words} words{more}")
 }
 
 pub fn counted(count: usize, what: &str) -> String {

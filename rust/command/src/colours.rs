@@ -12,8 +12,13 @@ pub const DOT: &str = "#555555";
 pub const TEXT: &str = "#000000";
 /// The line below the title.
 pub const SMALL_TEXT: &str = "#444444";
-/// The windows of labels with no change and with one change: their rims, and their shades behind the readings.
-pub const LABELS: [(&str, &str); 2] = [("#7b8794", "#dce0e3"), ("#b08d00", "#faeaa6")];
+/// The windows of labels: their rims, and their shades behind the readings. Those of no change, of a number of changes, of one up and of one down.
+pub const LABELS: [(&str, &str); 4] = [
+    ("#7b8794", "#dce0e3"),
+    ("#b08d00", "#faeaa6"),
+    ("#2f77b8", "#bcdcff"),
+    ("#b9543c", "#ffd0c0"),
+];
 
 pub fn of_state(state: u8) -> &'static str {
     STATES[usize::from(state) % STATES.len()]
@@ -175,10 +180,14 @@ mod tests {
     #[test]
     fn labels_stay_apart() {
         let shades = LABELS.map(|(_, shade)| shade);
-        let (least, where_least) = nearest(&[shades[0], shades[1], "#ffffff"]);
+        let (least, where_least) = nearest(&[&shades[..], &["#ffffff"]].concat());
         assert!(least >= 10.0, "{where_least}");
         for (rim, shade) in LABELS {
             assert!(contrast(rim, "#ffffff") >= 3.0 && contrast(rim, shade) >= 2.0, "{rim}");
+            // What is drawn over a window: levels, readings and changes.
+            for colour in STATES.into_iter().chain([DOT, INK]) {
+                assert!(contrast(colour, shade) >= 2.0, "{colour} on {shade}");
+            }
         }
     }
 

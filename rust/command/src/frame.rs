@@ -81,7 +81,7 @@ pub fn axes(svg: &mut Svg, frame: &Frame, [x, y]: [&Scale; 2], [across, upright]
         svg.line([x, foot, x, foot + 5.0], &format!("stroke=\"{INK}\""));
         svg.text(x, foot + 20.0, &style("middle"), &number.to_string());
     }
-    svg.rect([left, top, right, bottom], &format!("fill=\"none\" stroke=\"{INK}\""));
+    svg.rect([left, top, right, bottom], &format!("fill=\"none\" stroke=\"{INK}\""), "");
     svg.text((left + right) / 2.0, foot + 44.0, &style("middle"), across);
     let (middle, room) = ((top + bottom) / 2.0, bottom - top + 20.0);
     let size = if text_width(upright, SIZE) <= room { SIZE } else { SMALL };

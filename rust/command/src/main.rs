@@ -16,6 +16,7 @@ mod failure;
 mod find;
 mod frame;
 mod help;
+mod label;
 mod locate;
 mod make;
 mod outline;

@@ -87,7 +87,7 @@ pub fn bytes(text: &Text, readings: &[i16]) -> Vec<u8> {
         file.extend(fields::edge(edge.from, edge.to, edge.kind, edge.gap, edge.class));
     }
     for label in &plan.labels {
-        file.extend(fields::label(label.p, label.q, label.count));
+        file.extend(fields::label(label.p, label.q, label.c));
     }
     file.extend(fields::readings(&plan.readings));
     file
@@ -141,11 +141,8 @@ fn states_cause(text: &Text) -> Option<String> {
 
 /// Such a plan file is good, and may be meant for a longer record, but its own readings cannot be searched.
 pub fn warn_of_labels(text: &Text, count: usize) {
-    for (line, label) in text.labels.iter().filter(|(_, label)| usize::from(label.q) > count) {
-        let cause = format!(
-            "the label goes to reading {}, but there are {count}, so a search will be refused",
-            label.q
-        );
+    for (line, beyond) in text.labels.iter().filter_map(|(line, label)| Some((line, label.beyond(count)?))) {
+        let cause = format!("the label {beyond}, so a search will be refused");
         say(&format!("{}:{line}: warning: {}", text.name, numbered(&cause, Refusal(13))));
     }
 }

@@ -4,8 +4,9 @@ use crate::check::counted;
 use crate::colours::{self, text_on, DOT, INK, TEXT};
 use crate::failure::{quoted, usage, Failure};
 use crate::frame::{axes, fill, heading, Frame};
+use crate::label::{Label, ONE_DOWN, ONE_UP};
 use crate::outline::Outline;
-use crate::plan::{Label, Plan};
+use crate::plan::Plan;
 use crate::scale::{current_range, Scale};
 use crate::svg::{fitted, text_width, Svg, SIZE, SMALL};
 use shared::options::Args;
@@ -39,8 +40,6 @@ const SIGN_GAP: [f64; 2] = [8.0, 5.0];
 const MOST_LINES: f64 = 5.0;
 
 const MOST_STATES: usize = 8;
-
-const LABELS: [&str; 2] = ["no change", "1 change"];
 
 /// What the user wants of a picture beside its content.
 pub struct Look {
@@ -149,15 +148,22 @@ fn legend_items(plan: &Plan, outline: &Outline, crowd: bool, beyond: bool) -> Ve
         true => item(Sign::Mark, "change (mark above)", "change (above)"),
         false => item(Sign::Line(change_style()), "change", "change"),
     });
-    for (count, name) in LABELS.iter().enumerate() {
-        if plan.labels.iter().any(|label| usize::from(label.count) == count) {
-            items.push(item(Sign::Box(shade(count)), &format!("label, {name}"), name));
-        }
-    }
+    items.extend((0..colours::LABELS.len()).filter_map(|shade| legend_of_labels(plan, shade)));
     if beyond {
         items.push(item(Sign::Triangle, "reading beyond the axis", "off the axis"));
     }
     items
+}
+
+/// The labels of one shade; none where there are none. Where they ask for different numbers of changes, the windows say how many.
+fn legend_of_labels(plan: &Plan, shade: usize) -> Option<Item> {
+    let mut labels = plan.labels.iter().filter(|label| shade_of(label) == shade);
+    let first = labels.next()?;
+    let (long, short) = match labels.all(|label| label.c == first.c) {
+        true => (first.asks(), first.asks()),
+        false => ("number of changes".to_string(), "changes".to_string()),
+    };
+    Some((Sign::Box(window_style(shade)), format!("label, {long}"), short))
 }
 
 /// Draws the legend in as many lines as it needs, but no more than leave enough for the chart: else in narrow columns.
@@ -200,7 +206,7 @@ fn legend_item(svg: &mut Svg, sign: &Sign, [x, y]: [f64; 2], content: &str, room
     match sign {
         Sign::Line(style) => svg.line([x, y - 4.0, x + width, y - 4.0], style),
         Sign::Mark => svg.path(&mark(middle, y - 1.0), &mark_style(1.5), ""),
-        Sign::Box(style) => svg.rect([x, y - 10.0, x + width, y + 1.0], style),
+        Sign::Box(style) => svg.rect([x, y - 10.0, x + width, y + 1.0], style, ""),
         Sign::Dot => svg.path(&format!("M{middle:.1} {:.1}h0", y - 4.0), &dot_style(5.2), ""),
         Sign::Triangle => svg.path(&triangle(middle, y - 8.0, 1.0), &fill(DOT), ""),
     }
@@ -225,10 +231,29 @@ fn dot_style(width: f64) -> String {
     format!("stroke=\"{DOT}\" stroke-opacity=\"0.6\" stroke-width=\"{width:.1}\" stroke-linecap=\"round\" fill=\"none\"")
 }
 
+/// Which of the colours of labels is a label's: one for all numbers of changes but 0.
+fn shade_of(label: &Label) -> usize {
+    match label.c {
+        0 => 0,
+        ONE_UP => 2,
+        ONE_DOWN => 3,
+        _ => 1,
+    }
+}
+
 /// The look of a label's window, with a rim since one label may begin where the one before it ends.
-fn shade(count: usize) -> String {
-    let (rim, shade) = colours::LABELS[count.min(1)];
+fn window_style(shade: usize) -> String {
+    let (rim, shade) = colours::LABELS[shade];
     format!("fill=\"{shade}\" stroke=\"{rim}\"")
+}
+
+/// What a label asks for in one sign, for a narrow window.
+fn sign_of(label: &Label) -> String {
+    match label.c {
+        ONE_UP => "↑".to_string(),
+        ONE_DOWN => "↓".to_string(),
+        count => count.to_string(),
+    }
 }
 
 /// A small triangle with its tip at a place: upwards for 1, downwards for -1.
@@ -269,7 +294,9 @@ impl Chart<'_> {
     fn labels(&self, svg: &mut Svg, plan: &Plan) {
         for label in &plan.labels {
             let (left, right) = self.window(label);
-            svg.rect([left, self.frame.top, right, self.frame.bottom], &shade(usize::from(label.count)));
+            let style = window_style(shade_of(label));
+            let hint = format!("label: {}", label.text());
+            svg.rect([left, self.frame.top, right, self.frame.bottom], &style, &hint);
         }
     }
 
@@ -278,7 +305,7 @@ impl Chart<'_> {
         const RIM: &str = "stroke=\"white\" stroke-width=\"4\" stroke-linejoin=\"round\" paint-order=\"stroke\" pointer-events=\"none\"";
         for label in &plan.labels {
             let (left, right) = self.window(label);
-            let texts = [LABELS[usize::from(label.count.min(1))].to_string(), label.count.to_string()];
+            let texts = [label.asks(), sign_of(label)];
             if let Some(content) = texts.iter().find(|content| text_width(content, SIZE) + 2.0 < right - left) {
                 let style = format!("text-anchor=\"middle\" {} {RIM}", fill(TEXT));
                 svg.text((left + right) / 2.0, self.frame.bottom - 8.0, &style, content);

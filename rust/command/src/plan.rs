@@ -1,5 +1,5 @@
 //! A plan: grid, states, edges, labels and readings, and its bytes.
-use crate::check::counted;
+use crate::label::Label;
 use shared::fields::{number, signed, walk, Field};
 use shared::PENALTIES;
 use yeldaski::Refusal;
@@ -10,6 +10,9 @@ pub const MAX_RECORD: usize = 65_535;
 pub const MAX_WINDOW: usize = 1024;
 
 pub const KINDS: [&str; 5] = ["stay", "any", "up", "down", "abs"];
+/// The two of them that a label can ask for.
+pub const UP: u8 = 2;
+pub const DOWN: u8 = 3;
 
 #[derive(Debug, Clone, Copy, PartialEq, Eq)]
 pub struct Edge {
@@ -40,13 +43,6 @@ impl Edge {
     }
 }
 
-#[derive(Debug, Clone, Copy, PartialEq, Eq)]
-pub struct Label {
-    pub p: u16,
-    pub q: u16,
-    pub count: u8,
-}
-
 #[derive(Debug, Clone, PartialEq, Eq)]
 pub struct Plan {
     pub lo: i16,
@@ -57,13 +53,6 @@ pub struct Plan {
     pub edges: Vec<Edge>,
     pub labels: Vec<Label>,
     pub readings: Vec<i16>,
-}
-
-impl Label {
-    /// `readings 3 to 5, 1 change`, for messages.
-    pub fn text(&self) -> String {
-        format!("readings {} to {}, {}", self.p, self.q, counted(usize::from(self.count), "change"))
-    }
 }
 
 impl Plan {
@@ -84,7 +73,7 @@ impl Plan {
             start: states[1],
             end: states[2],
             edges: bodies(3).map(edge_of).collect(),
-            labels: bodies(4).map(label_of).collect(),
+            labels: bodies(4).map(Label::of).collect(),
             readings,
         })
     }
@@ -128,15 +117,6 @@ pub fn edge_of(body: &[u8]) -> Edge {
     }
 }
 
-/// The label of a body of five bytes.
-pub fn label_of(body: &[u8]) -> Label {
-    Label {
-        p: number(&body[..2]) as u16,
-        q: number(&body[2..4]) as u16,
-        count: body[4],
-    }
-}
-
 /// The file with some of its labels only, counted from 0.
 pub fn with_labels(file: &[u8], keep: impl Fn(usize) -> bool) -> Vec<u8> {
     let (labels, others): (Vec<Field>, Vec<Field>) = walk(file).into_iter().partition(|field| field.tag == 4);
@@ -144,6 +124,15 @@ pub fn with_labels(file: &[u8], keep: impl Fn(usize) -> bool) -> Vec<u8> {
     let labels = labels.into_iter().enumerate().filter(|(index, _)| keep(*index)).map(|(_, field)| field);
     let kept = front.into_iter().chain(labels).chain(readings);
     kept.flat_map(|field| file[field.offset..field.end()].to_vec()).collect()
+}
+
+/// The file with another c in the label of this number, counted from 0.
+pub fn with_c(file: &[u8], number: usize, c: u8) -> Vec<u8> {
+    let mut copy = file.to_vec();
+    if let Some(field) = walk(file).iter().filter(|field| field.tag == 4 && field.body.len() == 5).nth(number) {
+        copy[field.body.end - 1] = c;
+    }
+    copy
 }
 
 /// The file with other start and end sets.

@@ -1,8 +1,9 @@
 //! The rules of the model, judged on the runs of an answer. The search has no part in this.
 use crate::answer::Run;
 use crate::check::counted;
+use crate::label::Label;
 use crate::outline::Outline;
-use crate::plan::{Edge, Label, Plan};
+use crate::plan::{Edge, Plan, KINDS};
 use std::cmp::Ordering;
 
 /// The first rule that the runs break, in words. That they follow each other from reading 1 on is seen to by the answer reader. A plan without
@@ -87,27 +88,23 @@ impl Rules<'_> {
     fn labels(&self, runs: &[Run]) -> Option<String> {
         let readings = runs.last().map_or(0, |run| run.last);
         let judge = |(index, label): (usize, &Label)| {
-            let (number, text) = (index + 1, label.text());
-            if usize::from(label.q) > readings {
-                return Some(format!("label {number} ({text}) goes on after the last reading, {readings}"));
+            let number = index + 1;
+            if let Some(beyond) = label.beyond(readings) {
+                return Some(format!("label {number} {beyond}"));
             }
             let window = usize::from(label.p)..usize::from(label.q);
-            let changes = runs.iter().filter(|run| self.is_change(run) && window.contains(&(run.first - 1))).count();
-            let holds = changes == usize::from(label.count);
-            (!holds).then(|| {
-                format!(
-                    "label {number} ({text}) does not hold: the runs have {} there",
-                    counted(changes, "change")
-                )
-            })
+            let inside = runs.iter().filter(|run| window.contains(&(run.first - 1)));
+            let kinds: Vec<u8> = inside.filter_map(|run| self.change(run)).map(|edge| edge.kind).collect();
+            let there = found(label, &kinds);
+            (!label.holds(&kinds)).then(|| format!("label {number} ({}) does not hold: the runs have {there}", label.text()))
         };
         self.plan.labels.iter().enumerate().find_map(judge)
     }
 
-    /// Whether the boundary before a run is a change.
-    fn is_change(&self, run: &Run) -> bool {
+    /// The edge at the boundary before a run, where it is a change.
+    fn change(&self, run: &Run) -> Option<&Edge> {
         let edge = run.edge.and_then(|number| self.plan.edges.get(usize::from(number)));
-        edge.is_some_and(Edge::is_change)
+        edge.filter(|edge| edge.is_change())
     }
 
     fn state(&self, number: u8) -> String {
@@ -115,6 +112,15 @@ impl Rules<'_> {
             Some(_) => format!("state {number} ({})", self.outline.word(number)),
             None => format!("state {number}"),
         }
+    }
+}
+
+/// How many changes there are between the readings of a label, with the kind of a single one where the label asks for a kind.
+fn found(label: &Label, kinds: &[u8]) -> String {
+    let changes = counted(kinds.len(), "change");
+    match (label.kind(), kinds) {
+        (Some(_), [kind]) => format!("{changes} there, of kind {}", KINDS[usize::from(*kind)]),
+        _ => format!("{changes} there"),
     }
 }
 
@@ -306,21 +312,56 @@ mod tests {
     fn labels_and_their_ends() {
         let one = [(3, 0, 31, 255), (8, 1, 42, 2)];
         let stay = [(1, 0, 9, 255), (2, 1, 15, 2), (5, 0, 15, 4), (8, 1, 21, 2)];
-        let label = |p, q, count| Plan {
-            labels: vec![Label { p, q, count }],
-            ..plan()
-        };
         for (p, q, count) in [(3, 4, 1), (1, 8, 1), (1, 3, 0), (4, 8, 0), (2, 4, 1), (3, 5, 1)] {
             assert_eq!(judged(&label(p, q, count), &one), None, "{p} {q} {count}");
             let changes = if count == 1 { "1 change" } else { "0 changes" };
-            let other = if count == 1 { "0 changes" } else { "1 change" };
+            let other = if count == 1 { "no change" } else { "1 change" };
             let words = format!("label 1 (readings {p} to {q}, {other}) does not hold: the runs have {changes} there");
             assert_eq!(judged(&label(p, q, 1 - count), &one), Some(words));
         }
         assert_eq!(judged(&label(2, 3, 0), &stay), None);
         assert!(judged(&label(1, 6, 1), &stay).is_some_and(|words| words.ends_with("the runs have 2 changes there")));
-        let words = "label 1 (readings 8 to 9, 0 changes) goes on after the last reading, 8";
+        let words = "label 1 (readings 8 to 9, no change) goes on after the last reading, 8";
         assert_eq!(judged(&label(8, 9, 0), &one).as_deref(), Some(words));
+    }
+
+    fn label(p: u16, q: u16, c: u8) -> Plan {
+        Plan {
+            labels: vec![Label { p, q, c }],
+            ..plan()
+        }
+    }
+
+    /// Boundaries 1 and 3 are up, 2 is down, 6 a stay to the other state.
+    const UPS: [Short; 5] = [(1, 0, 9, 255), (2, 1, 15, 2), (3, 0, 9, 3), (6, 1, 15, 2), (7, 0, 15, 4)];
+    /// Boundary 1 is any, 3 is abs: both rise, but neither is of kind up. 5 is up.
+    const RISES: [Short; 4] = [(1, 0, 9, 255), (3, 0, 20, 5), (5, 0, 30, 6), (7, 1, 40, 2)];
+
+    #[test]
+    fn labels_of_several_changes_and_of_one_kind() {
+        let ends_in_0 = |p, q, c| Plan { end: 3, ..label(p, q, c) };
+        for (p, q, c) in [(1, 2, 8), (2, 3, 9), (3, 4, 8), (3, 7, 8), (1, 3, 2), (1, 4, 3), (1, 7, 3), (4, 7, 0)] {
+            assert_eq!(judged(&ends_in_0(p, q, c), &UPS), None, "{p} {q} {c}");
+        }
+        for (p, q, c) in [(1, 6, 3), (1, 4, 2), (5, 6, 8), (4, 6, 8), (2, 4, 1)] {
+            assert_eq!(judged(&label(p, q, c), &RISES), None, "{p} {q} {c}");
+        }
+        let broken: [(&[Short], _, &str, &str); 9] = [
+            (&UPS, (1, 2, 9), "one down", "1 change there, of kind up"),
+            (&UPS, (2, 3, 8), "one up", "1 change there, of kind down"),
+            // One of them is of the kind, but no other change may stand beside it.
+            (&UPS, (1, 3, 8), "one up", "2 changes there"),
+            (&UPS, (2, 4, 9), "one down", "2 changes there"),
+            (&UPS, (4, 7, 8), "one up", "0 changes there"),
+            (&UPS, (1, 4, 7), "7 changes", "3 changes there"),
+            (&UPS, (1, 2, 2), "2 changes", "1 change there"),
+            (&RISES, (1, 2, 8), "one up", "1 change there, of kind any"),
+            (&RISES, (3, 4, 8), "one up", "1 change there, of kind abs"),
+        ];
+        for (list, (p, q, c), asks, there) in broken {
+            let words = format!("label 1 (readings {p} to {q}, {asks}) does not hold: the runs have {there}");
+            assert_eq!(judged(&ends_in_0(p, q, c), list), Some(words));
+        }
     }
 
     #[test]
@@ -370,7 +411,8 @@ mod tests {
                 file.extend(if Plan::read(&whole).is_ok() { edge } else { Vec::new() });
             }
             let p = 1 + self.below(3);
-            file.extend(fields::label(p, p + 1 + self.below(3), self.below(2) as u8));
+            let c = [0, 1, 2, 3, 8, 9][usize::from(self.below(6))];
+            file.extend(fields::label(p, p + 1 + self.below(3), c));
             let readings: Vec<i16> = (0..7).map(|_| self.below(10) as i16 - 4).collect();
             file.extend(fields::readings(&readings));
             file

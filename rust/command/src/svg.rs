@@ -23,9 +23,14 @@ impl Svg {
         self.text + "</svg>\n"
     }
 
-    pub fn rect(&mut self, [left, top, right, bottom]: [f64; 4], style: &str) {
+    /// A rectangle with a text that a viewer shows under the mouse; no text where it is empty.
+    pub fn rect(&mut self, [left, top, right, bottom]: [f64; 4], style: &str, hint: &str) {
         let (width, height) = (right - left, bottom - top);
-        self.text += &format!("<rect x=\"{left:.1}\" y=\"{top:.1}\" width=\"{width:.1}\" height=\"{height:.1}\" {style}/>\n");
+        let shape = format!("<rect x=\"{left:.1}\" y=\"{top:.1}\" width=\"{width:.1}\" height=\"{height:.1}\" {style}");
+        self.text += &match hint {
+            "" => format!("{shape}/>\n"),
+            _ => format!("{shape}><title>{}</title></rect>\n", escaped(hint)),
+        };
     }
 
     pub fn line(&mut self, [x1, y1, x2, y2]: [f64; 4], style: &str) {

@@ -3,7 +3,8 @@ use crate::csv::{Column, Header, Layout, Units};
 use crate::decimal::{self, MAX_SCALE};
 use crate::decode;
 use crate::failure::{quoted, refused, Failure};
-use crate::plan::{Edge, Label, Plan, KINDS, MAX_READINGS};
+use crate::label::{Label, MOST_CHANGES, ONE_DOWN, ONE_UP};
+use crate::plan::{Edge, Plan, KINDS, MAX_READINGS};
 use crate::streams::Input;
 use shared::options::did_you_mean;
 use shared::PENALTIES;
@@ -12,8 +13,8 @@ use std::ops::RangeInclusive;
 const GRID: &str = "grid LO to HI";
 const STATE: &str = "state NAME [start] [end]";
 const EDGE: &str = "edge FROM -> TO KIND [GAP] [penalty N | class N]";
-const LABEL: &str = "label P to Q changes COUNT";
-/// Two forms; a message puts its own marks around them.
+/// Three forms, and two of the next; a message puts its own marks around them.
+const LABEL: &str = "label P to Q changes N', 'label P to Q one up' or 'label P to Q one down";
 const READINGS: &str = "readings N N ...' or 'readings from FILE [column NAME | column NUMBER] [header | no-header]";
 const SCALE: &str = "scale N";
 const DECIMAL: &str = "decimal comma";
@@ -420,10 +421,28 @@ fn label(words: &mut Words) -> Result<Label, String> {
     let p = words.number("P", 1..=MAX_READINGS as i64 - 1, 0..=65535, LABEL)? as u16;
     words.keyword("to", LABEL)?;
     let q = words.number("Q", 2..=MAX_READINGS as i64, 0..=65535, LABEL)? as u16;
-    words.keyword("changes", LABEL)?;
-    let count = words.number("COUNT", 0..=1, 0..=255, LABEL)? as u8;
+    let c = asked(words)?;
     words.finish(LABEL)?;
-    Ok(Label { p, q, count })
+    Ok(Label { p, q, c })
+}
+
+/// What a label asks for. In the file 8 and 9 are one up and one down; after 'changes' they would read as eight and nine changes.
+fn asked(words: &mut Words) -> Result<u8, String> {
+    let what = "'changes', 'one up' or 'one down'";
+    let word = words.next().ok_or_else(|| ends(what, LABEL))?;
+    if word.is("changes") {
+        let counts = 0..=i64::from(MOST_CHANGES);
+        return Ok(words.number("the number of changes", counts.clone(), counts, LABEL)? as u8);
+    }
+    if !word.is("one") {
+        return Err(expected(what, word, LABEL));
+    }
+    match words.next() {
+        Some(word) if word.is("up") => Ok(ONE_UP),
+        Some(word) if word.is("down") => Ok(ONE_DOWN),
+        Some(word) => Err(expected("'up' or 'down' after 'one'", word, LABEL)),
+        None => Err(ends("'up' or 'down' after 'one'", LABEL)),
+    }
 }
 
 fn source<'a>(words: &mut Words<'a, '_>) -> Result<Given<'a>, String> {
@@ -579,7 +598,7 @@ mod tests {
             gap: 5,
             class: 3,
         };
-        let label = Label { p: 1, q: 2, count: 1 };
+        let label = Label { p: 1, q: 2, c: 1 };
         assert_eq!((plan.edges, plan.labels, plan.readings), (vec![edge], vec![label], vec![1, -2]));
         // Masks have room for 8 states; a ninth must not spill over.
         let many: String = (0..300).map(|i| format!("state s{i} start end\n")).collect();

@@ -31,7 +31,7 @@ fn good_files() {
     let lines = "plan file, good\n  grid 0 to 9, 10 levels\n  1 state, 2 edges, 0 labels\n  2 readings from 3 to 4\n";
     assert_eq!(
         text,
-        format!("standard input: {lines}  workspace of a search: 480 words\n  a search finds 1 run at cost 1\n")
+        format!("standard input: {lines}  workspace of a search: 1920 words\n  a search finds 1 run at cost 1\n")
     );
     assert_eq!(
         report(PAPER_ANSWER),
@@ -265,13 +265,16 @@ fn labels_of_a_plan() {
     refused(&[ONE, "04 0005 0000 0002 00"].concat(), 8, label, "p is 0");
     refused(&[ONE, "04 0005 0002 0002 00"].concat(), 8, label, "q 2 is not above p 2");
     refused(&[ONE, "04 0005 0002 1001 00"].concat(), 8, label, "q 4097 is above 4096");
-    refused(&[ONE, "04 0005 0001 0002 02"].concat(), 8, label, "the count 2 is above 1");
-    let two = [ONE, "04 0005 0001 0003 00", "04 0005 0002 0004 00"].concat();
+    for c in [10, 255] {
+        let cause = format!("c {c} is above 9: 0 to 7 ask for so many changes, 8 for one up and 9 for one down\n");
+        refused(&[ONE, "04 0005 0001 0002", &format!("{c:02X}")].concat(), 8, label, &cause);
+    }
+    let two = [ONE, "04 0005 0001 0003 08", "04 0005 0002 0004 03"].concat();
     refused(
         &two,
         12,
         "field 4, tag 04 (label 2), at byte 21 (0x15)",
-        "it starts at 2, but the label before it goes to 3",
+        "it (readings 2 to 4, 3 changes) starts before the label before it (readings 1 to 3, one up) ends\n",
     );
     let many: String = (1..66).map(|p| format!("04 0005 {p:04X} {:04X} 00", p + 1)).collect();
     refused(
@@ -311,29 +314,70 @@ fn contents_of_an_answer() {
     refused("83 0001 00", 17, "field 1, tag 83 (refusal), at byte 0 (0x0)", "0 is no refusal number");
 }
 
+/// The report on the plan file of a text.
+fn report_on(text: &str) -> (i32, String) {
+    let made = run(&["make"], text.as_bytes());
+    assert_eq!(made.status, 0, "{}", made.err);
+    let done = run(&["check"], &made.out);
+    (done.status, done.text())
+}
+
+/// A good plan with labels of every sort. They ask for five changes, at 1 each; with those before readings 2, 3, 5, 6 and 7 every level is its reading.
+#[test]
+fn labels_in_words() {
+    let (status, text) = report_on(
+        "grid 0 to 9\nstate a start end\nedge a->a stay\nedge a->a up 1 penalty 1\nedge a->a down 1 penalty 1\n\
+         label 1 to 2 one up\nlabel 2 to 3 one down\nlabel 3 to 4 changes 0\nlabel 4 to 7 changes 3\nlabel 7 to 8 changes 0\n\
+         readings 2 5 3 3 6 9 1 1\n",
+    );
+    assert_eq!(status, 0, "{text}");
+    let labels = "1 state, 3 edges, 5 labels\n  label 1: readings 1 to 2, one up\n  label 2: readings 2 to 3, one down\n  \
+                  label 3: readings 3 to 4, no change\n  label 4: readings 4 to 7, 3 changes\n  label 5: readings 7 to 8, no change\n  8 readings";
+    assert!(text.contains(labels) && text.ends_with("  a search finds 6 runs at cost 5\n"), "{text}");
+}
+
 /// Files that can be read, but not searched.
 #[test]
 fn refusals_of_a_search() {
-    let text = |labels: &str| {
-        run(
-            &["make"],
-            format!("grid 0 to 3\nstate a start end\nedge a->a stay\n{labels}readings 1 2 3\n").as_bytes(),
-        )
-        .out
-    };
-    let check = |file: &[u8]| run(&["check"], file);
-    let beyond = check(&text("label 1 to 3 changes 0\nlabel 3 to 9 changes 0\n"));
-    assert_eq!(beyond.status, 1);
-    assert!(beyond.text().contains("refusal 13: "), "{}", beyond.text());
-    assert!(beyond
-        .text()
-        .contains("\n  cause: label 2 goes to reading 9, but there are 3\n  field 5, tag 04 (label 2), at byte 30 (0x1E)\n  refusal 13: "));
-    // A stay is no change, so the second of these labels cannot hold.
-    let label = check(&text("label 1 to 2 changes 0\nlabel 2 to 3 changes 1\n"));
-    assert!(label.text().contains("refusal 16: ") && label.status == 1);
-    assert!(label
-        .text()
-        .contains("\n  cause: label 2 (readings 2 to 3, 1 change) cannot hold\n  field 5, tag 04 (label 2), at byte 30 (0x1E)\n  refusal 16: "));
+    let text = |labels: &str| report_on(&format!("grid 0 to 3\nstate a start end\nedge a->a stay\n{labels}readings 1 2 3\n"));
+    let second = "field 5, tag 04 (label 2), at byte 30 (0x1E)";
+    for (labels, number, cause) in [
+        (
+            "label 1 to 3 changes 0\nlabel 3 to 9 changes 0\n",
+            13,
+            "label 2 (readings 3 to 9, no change) goes on after the last reading, 3",
+        ),
+        (
+            "label 1 to 3 one up\nlabel 3 to 4 one down\n",
+            13,
+            "label 2 (readings 3 to 4, one down) goes on after the last reading, 3",
+        ),
+        // A stay is no change, so the second of these labels cannot hold.
+        (
+            "label 1 to 2 changes 0\nlabel 2 to 3 changes 1\n",
+            16,
+            "label 2 (readings 2 to 3, 1 change) cannot hold; possible there: no change",
+        ),
+        (
+            "label 1 to 2 changes 0\nlabel 2 to 3 changes 2\n",
+            16,
+            "label 2 (readings 2 to 3, 2 changes) cannot hold: there is room for 1 change",
+        ),
+        (
+            "label 1 to 2 changes 0\nlabel 2 to 3 one up\n",
+            16,
+            "label 2 (readings 2 to 3, one up) cannot hold: no edge has the kind up",
+        ),
+        (
+            "label 1 to 2 changes 0\nlabel 2 to 3 one down\n",
+            16,
+            "label 2 (readings 2 to 3, one down) cannot hold: no edge has the kind down",
+        ),
+    ] {
+        let (status, report) = text(labels);
+        let lines = format!("\n  cause: {cause}\n  {second}\n  refusal {number}: ");
+        assert!(status == 1 && report.contains(&lines), "{report}");
+    }
     refused(
         &[ONE, READINGS].concat(),
         16,
@@ -356,18 +400,45 @@ fn refusals_of_a_search() {
     );
 }
 
+/// Labels that cannot hold though their kinds and their room would allow it: what they could ask for instead is said.
+#[test]
+fn labels_that_could_ask_for_something_else() {
+    // The gap of the rise is wider than the grid, so the level only falls, three times at most.
+    let falling = "grid 0 to 3\nstate a start end\nedge a->a stay\nedge a->a up 9 penalty 1\nedge a->a down 1 penalty 1\n";
+    // Without a stay every boundary is a change.
+    let restless = "grid 0 to 1\nstate a start end\nedge a->a any penalty 0\n";
+    for (plan, label, words) in [
+        (
+            falling,
+            "label 1 to 4 one up",
+            "one up) cannot hold; possible there: no change, 1 change, 2 changes, 3 changes, one down",
+        ),
+        (
+            falling,
+            "label 1 to 9 changes 5",
+            "5 changes) cannot hold; possible there: no change, 1 change, 2 changes, 3 changes, one down",
+        ),
+        (restless, "label 1 to 4 changes 2", "2 changes) cannot hold; possible there: 3 changes"),
+        (
+            restless,
+            "label 1 to 9 changes 0",
+            "no change) cannot hold; every segmentation has more than 7 changes there",
+        ),
+    ] {
+        let (status, report) = report_on(&format!("{plan}{label}\nreadings 3 2 3 1 2 3 1 2 0 1\n"));
+        assert!(status == 1 && report.contains(words), "{report}");
+    }
+}
+
 /// Two labels that hold alone but not together: the one up that is allowed cannot be used twice.
 #[test]
 fn labels_that_exclude_each_other() {
-    let text = "grid 0 to 3\nstate a start\nstate b end\nedge a->a stay\nedge b->b stay\nedge a->b up 1 penalty 1\n\
-                label 1 to 2 changes 1\nlabel 2 to 3 changes 1\nreadings 1 2 3\n";
-    let done = run(&["check"], &run(&["make"], text.as_bytes()).out);
-    assert!(
-        done.text()
-            .contains("cause: label 2 (readings 2 to 3, 1 change) cannot hold together with the labels before it\n"),
-        "{}",
-        done.text()
-    );
+    let plan = "grid 0 to 3\nstate a start\nstate b end\nedge a->a stay\nedge b->b stay\nedge a->b up 1 penalty 1\n";
+    for (label, asks) in [("changes 1", "1 change"), ("one up", "one up")] {
+        let (_, text) = report_on(&format!("{plan}label 1 to 2 {label}\nlabel 2 to 3 {label}\nreadings 1 2 3\n"));
+        let cause = format!("cause: label 2 (readings 2 to 3, {asks}) cannot hold together with the labels before it; possible there: no change\n");
+        assert!(text.contains(&cause), "{text}");
+    }
 }
 
 /// Every cut and every changed byte: the located field always agrees with the number, and `run` gives the same number.

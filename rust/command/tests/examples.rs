@@ -1,7 +1,7 @@
 //! The examples are made again from their texts and compared byte for byte. The stored answer files equal those of the second program, which
 //! shares no code with the library; the stored pictures have no such source and only show that nothing has moved.
 mod common;
-use common::{folder, run_in};
+use common::{folder, hex, run_in, segment};
 use std::fs;
 use std::path::PathBuf;
 
@@ -34,6 +34,18 @@ fn made_again() {
         for file in [&plan, &answer, &picture] {
             assert!(fs::read(folder.join(file)).expect("file") == stored(file), "{file} differs");
         }
+    }
+}
+
+/// Which examples the program `segment` has words for is said in the README. An answer that it refuses is shown as such, with what to do.
+#[test]
+fn by_the_program() {
+    assert_eq!(segment(&stored("belt.plan")), stored("belt.answer"));
+    for name in ["pad", "board"] {
+        let answer = segment(&stored(&format!("{name}.plan")));
+        assert_eq!(answer, hex("83 0001 0E"), "{name}");
+        let shown = run_in(&examples(), &["show"], &answer);
+        assert!(shown.status == 1 && shown.text().contains("'yeldaski run'"), "{}", shown.text());
     }
 }
 
@@ -109,6 +121,7 @@ fn worked_examples_of_the_readme() {
         assert!(blocks.contains(&done.text().as_str()), "{text}: {}", done.text());
         let answer = run_in(&folder, &["find", "t.txt", "--format", "answer"], b"").out;
         let plan = run_in(&folder, &["make", "t.txt"], b"").out;
+        assert_eq!(segment(&plan), answer, "{text}");
         let digits = |bytes: &[u8]| bytes.iter().map(|byte| format!("{byte:02X}")).collect::<String>();
         // Words follow the bytes in a line after more blanks than stand between them.
         let bytes_of = |block: &&str| {

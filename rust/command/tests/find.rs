@@ -280,7 +280,7 @@ fn a_refused_record() {
         (
             "label.txt",
             "day.csv",
-            "day.csv: label 1 goes to reading 9, but there are 8; see label.txt:7",
+            "day.csv: label 1 (readings 2 to 9, 1 change) goes on after the last reading, 8; see label.txt:7",
             "(refusal 13)",
         ),
         (

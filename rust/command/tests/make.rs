@@ -30,20 +30,29 @@ fn every_kind_of_field() {
         edge worn -> worn stay
         label 1 to 2 changes 0
         label 2 to 258 changes 1
+        label 258 to 300 changes 7
+        label 300 to 301 one up
+        label 301 to 4096 one down
         readings -1 32767
         readings -32768
     ";
     let bytes = "01 0004 FED4 FFFE  02 0003 02 03 02
         03 0006 00 01 02 0005 0F  03 0006 01 00 03 03FF 09  03 0006 01 01 04 0102 00  03 0006 01 01 01 0000 00  03 0006 01 01 00 0000 00
-        04 0005 0001 0002 00  04 0005 0002 0102 01  05 0006 FFFF 7FFF 8000";
+        04 0005 0001 0002 00  04 0005 0002 0102 01  04 0005 0102 012C 07  04 0005 012C 012D 08  04 0005 012D 1000 09
+        05 0006 FFFF 7FFF 8000";
     let done = run(&["make"], text.as_bytes());
     assert_eq!((done.status, done.out), (0, hex(bytes)));
-    assert!(
-        done.err
-            .starts_with("standard input:12: warning: the label goes to reading 258, but there are 3"),
-        "{}",
-        done.err
-    );
+    let warnings: Vec<&str> = done.err.lines().collect();
+    let asked = [
+        "readings 2 to 258, 1 change",
+        "readings 258 to 300, 7 changes",
+        "readings 300 to 301, one up",
+        "readings 301 to 4096, one down",
+    ];
+    for (index, asked) in asked.iter().enumerate() {
+        let words = format!("the label ({asked}) goes on after the last reading, 3, so a search will be refused (refusal 13)");
+        assert_eq!(warnings[index], format!("standard input:{}: warning: {words}", 12 + index));
+    }
 }
 
 #[test]
@@ -130,13 +139,60 @@ fn errors_in_the_text() {
         ("penalty 10", "penalty 11", 4, "one of the sixteen penalties (0, 1, 2, 5, 10,"),
         (" penalty 10", "", 4, "'penalty N' or 'class N'"),
         ("penalty 10", "penalty 10 10", 4, "expected the end of the line, found '10'"),
-        ("readings", "label 1 to 2\nreadings", 5, "expected 'changes'"),
         ("readings 3 4", "readings 3 4.5", 5, "found '4.5'"),
         ("readings 3 4", "readings from z.csv column 0", 5, "counted from 1"),
         ("only start", "\"only start", 2, "not closed"),
     ];
     for (old, new, line, words) in cases {
         refused(&PAPER_TEXT.replacen(old, new, 1), line, words);
+    }
+}
+
+/// The paper text with a label in its line 5.
+fn with_label(words: &str) -> String {
+    PAPER_TEXT.replace("readings", &format!("label 1 to 2 {words}\nreadings"))
+}
+
+/// What a label may ask for, in the file's numbers: 0 to 7 changes, 8 one up, 9 one down.
+#[test]
+fn labels() {
+    let numbers = (0..=7).map(|count| (count, format!("changes {count}")));
+    for (c, words) in numbers.chain([(8, "one up".to_string()), (9, "one down".to_string())]) {
+        let file = made(&with_label(&words));
+        assert_eq!(file[31..39], hex(&format!("04 0005 0001 0002 {c:02X}")), "{words}");
+    }
+}
+
+#[test]
+fn errors_in_a_label() {
+    let asked = "expected 'changes', 'one up' or 'one down'";
+    let kind = "expected 'up' or 'down' after 'one'";
+    let count = "expected the number of changes as a whole number from 0 to 7";
+    let end = "expected the end of the line";
+    let form = "'label P to Q changes N', 'label P to Q one up' or 'label P to Q one down'";
+    for (words, what) in [("", asked), ("one", kind), ("changes", count)] {
+        refused(&with_label(words), 5, &format!("5: {what}, but the line ends; it should read {form}\n"));
+    }
+    for (words, what, found) in [
+        ("change 1", asked, "'change'"),
+        ("up", asked, "'up'"),
+        ("8", asked, "'8'"),
+        ("One up", asked, "'One'"),
+        ("\"one\" up", asked, "'one' in quotation marks"),
+        ("one change", kind, "'change'"),
+        ("one \"up\"", kind, "'up' in quotation marks"),
+        ("one up 6", end, "'6'"),
+        ("one up down", end, "'down'"),
+        ("changes 1 one up", end, "'one'"),
+        ("changes up", count, "'up'"),
+        ("changes -1", count, "'-1'"),
+        ("changes 1.0", count, "'1.0'"),
+        ("changes 8", count, "'8'"),
+        ("changes 9", count, "'9'"),
+        ("changes 10", count, "'10'"),
+        ("changes 256", count, "'256'"),
+    ] {
+        refused(&with_label(words), 5, &format!("5: {what}, found {found}; the line should read {form}\n"));
     }
 }
 
@@ -173,13 +229,14 @@ fn refusals_of_the_reader() {
         ("edge only -> only any penalty 10", &edges, 5, "(refusal 7)\n"),
         ("any penalty 10", "stay penalty 10", 4, "line 3 has these two states"),
         ("readings", "label 0 to 2 changes 1\nreadings", 5, "(refusal 8)\n"),
-        ("readings", "label 1 to 2 changes 2\nreadings", 5, "(refusal 8)\n"),
+        ("readings", "label 2 to 2 one up\nreadings", 5, "(refusal 8)\n"),
+        ("readings", "label 2 to 4097 changes 7\nreadings", 5, "(refusal 8)\n"),
         ("readings", &format!("{labels}readings"), 69, "(refusal 10)\n"),
         (
             "readings",
-            "label 1 to 3 changes 1\nlabel 2 to 4 changes 1\nreadings",
+            "label 1 to 3 changes 2\nlabel 2 to 4 one down\nreadings",
             6,
-            "(refusal 12)\n",
+            "6: it (readings 2 to 4, one down) starts before the label before it (readings 1 to 3, 2 changes) ends (refusal 12)\n",
         ),
         (
             "readings 3 4",

@@ -89,7 +89,8 @@ fn eight_states(names: &[String; 8], more: &str) -> String {
     );
     for (index, name) in names.iter().enumerate() {
         let next = &names[(index + 1) % 8];
-        text += &format!("edge \"{name}\" -> \"{name}\" stay\nedge \"{name}\" -> \"{next}\" abs 5 penalty 100\n");
+        text += &format!("edge \"{name}\" -> \"{name}\" stay\n");
+        text.extend(["abs", "up", "down"].map(|kind| format!("edge \"{name}\" -> \"{next}\" {kind} 5 penalty 100\n")));
     }
     let readings: String = (0..160).map(|i| format!(" {}", i / 20 * 37 % 80 + 10)).collect();
     text + more + "readings" + &readings + "\n"
@@ -192,6 +193,112 @@ fn places_in_a_picture() {
             2,
             "level and strip: {words}"
         );
+    }
+}
+
+/// What labels can ask for: in a text, in words, and in one sign.
+const ASKED: [(&str, &str, &str); 10] = [
+    ("changes 0", "no change", "0"),
+    ("changes 1", "1 change", "1"),
+    ("changes 2", "2 changes", "2"),
+    ("changes 3", "3 changes", "3"),
+    ("changes 4", "4 changes", "4"),
+    ("changes 5", "5 changes", "5"),
+    ("changes 6", "6 changes", "6"),
+    ("changes 7", "7 changes", "7"),
+    ("one up", "one up", "↑"),
+    ("one down", "one down", "↓"),
+];
+
+/// A record of so many readings, at least 71, with labels.
+fn labelled(count: usize, labels: &str) -> String {
+    let edges = "edge a -> a stay\nedge a -> a up 0 penalty 1\nedge a -> a down 0 penalty 1\n";
+    format!("grid 0 to 9\nstate a start end\n{edges}{labels}readings{}\n", " 5".repeat(count))
+}
+
+/// Every sort of label, each over seven boundaries: readings 1 to 8, 8 to 15 and so on.
+fn every_label() -> String {
+    let label = |(i, asked): (usize, &(&str, &str, &str))| format!("label {} to {} {}\n", 1 + 7 * i, 8 + 7 * i, asked.0);
+    ASKED.iter().enumerate().map(label).collect()
+}
+
+/// The windows of labels, in their order.
+fn windows(elements: &[Element]) -> Vec<&Element> {
+    let [_, top, _, bottom] = chart(elements);
+    let high = |rect: &&Element| rect.get("y").parse() == Ok(top) && rect.number("height") == bottom - top;
+    tagged(elements, "rect").filter(high).filter(|rect| rect.get("fill") != "none").collect()
+}
+
+/// The texts in the windows of labels.
+fn window_texts(elements: &[Element]) -> Vec<&Element> {
+    let foot = chart(elements)[3] - 8.0;
+    tagged(elements, "text").filter(|text| text.number("y") == foot).collect()
+}
+
+#[test]
+fn windows_of_labels() {
+    let elements = elements(&drawn("label_windows", &labelled(71, &every_label()), &[]));
+    check_inside(&elements);
+    let (windows, texts) = (windows(&elements), window_texts(&elements));
+    assert_eq!((windows.len(), texts.len()), (10, 10));
+    // 71 readings on an axis from 70 to 1180.
+    let place = |reading: usize| 70.0 + 1110.0 * (reading as f64 - 0.5) / 71.0;
+    for (index, (_, words, _)) in ASKED.iter().enumerate() {
+        let (p, q) = (1 + 7 * index, 8 + 7 * index);
+        let (window, text) = (windows[index], texts[index]);
+        assert!((window.number("x") - place(p)).abs() < 0.1 && (window.number("width") - (place(q) - place(p))).abs() < 0.1);
+        assert!(
+            (text.number("x") - (place(p) + place(q)) / 2.0).abs() < 0.1 && text.text == *words,
+            "{}",
+            text.text
+        );
+        assert!(contrast(text.get("fill"), window.get("fill")) >= 4.5, "{words}");
+        let hint = format!("label: readings {p} to {q}, {words}");
+        assert_eq!(tagged(&elements, "title").filter(|title| title.text == hint).count(), 1, "{hint}");
+    }
+    // All numbers of changes but 0 have one colour and the others each their own, by which the legend names them.
+    let legend = ["label, no change", "label, number of changes", "label, one up", "label, one down"];
+    let colours: Vec<&str> = windows.iter().map(|window| window.get("fill")).collect();
+    assert!(colours[1..8].iter().all(|colour| *colour == colours[1]));
+    for (words, index) in legend.iter().zip([0, 1, 8, 9]) {
+        let text = tagged(&elements, "text").find(|text| text.text == *words).expect(words);
+        let beside = |rect: &&Element| rect.get("x").parse() == Ok(text.number("x") - 34.0) && rect.number("y") == text.number("y") - 10.0;
+        assert_eq!(tagged(&elements, "rect").find(beside).expect(words).get("fill"), colours[index]);
+        assert_eq!(
+            colours.iter().filter(|colour| **colour == colours[index]).count(),
+            if index == 1 { 7 } else { 1 }
+        );
+    }
+}
+
+/// Narrower windows have one sign, and still narrower ones the words under the mouse alone.
+#[test]
+fn narrow_windows_of_labels() {
+    for (readings, signs) in [(71, true), (710, false)] {
+        let elements = elements(&drawn("narrow_labels", &labelled(readings, &every_label()), &["--size", "500x400"]));
+        check_inside(&elements);
+        let texts: Vec<&str> = window_texts(&elements).iter().map(|text| text.text.as_str()).collect();
+        assert_eq!(texts, if signs { ASKED.map(|asked| asked.2).to_vec() } else { vec![] }, "{readings}");
+        assert_eq!(windows(&elements).len(), 10, "{readings}");
+        assert!(tagged(&elements, "title").any(|title| title.text == "label: readings 64 to 71, one down"));
+    }
+}
+
+/// Labels that all ask for the same number of changes are named by it.
+#[test]
+fn the_legend_of_labels() {
+    for (labels, due) in [
+        ("label 1 to 8 changes 3\nlabel 8 to 15 changes 3\n", &["label, 3 changes"][..]),
+        ("label 1 to 8 changes 3\nlabel 8 to 15 changes 2\n", &["label, number of changes"]),
+        (
+            "label 1 to 8 one down\nlabel 8 to 15 changes 0\n",
+            &["label, no change", "label, one down"],
+        ),
+        ("", &[]),
+    ] {
+        let elements = elements(&drawn("label_legend", &labelled(71, labels), &[]));
+        let texts = tagged(&elements, "text").map(|text| text.text.as_str());
+        assert_eq!(texts.filter(|text| text.starts_with("label")).collect::<Vec<&str>>(), due);
     }
 }
 
@@ -349,7 +456,8 @@ fn odd_names() {
         " ".to_string(),
         "e\u{301}\u{302}\u{303}🦀".to_string(),
     ];
-    let more = "label 30 to 50 changes 1\nlabel 50 to 55 changes 0\nreadings 30000\n";
+    let labels = "label 10 to 30 one up\nlabel 30 to 50 changes 1\nlabel 50 to 55 changes 0\nlabel 55 to 70 one down\nlabel 70 to 110 changes 2\n";
+    let more = &format!("{labels}readings 30000\n");
     let title = format!("tab\there, \u{1} \u{1b}[0m {}", "long ".repeat(200));
     let unit = "\u{2}<&>\u{7}".repeat(30);
     for size in ["400x300", "1200x540", "401x3000", "4000x300"] {
@@ -387,7 +495,7 @@ fn check_legend(elements: &[Element]) {
     });
     assert_eq!(
         texts.len(),
-        2 + 1 + 8 + 1 + 2 + 1,
+        2 + 1 + 8 + 1 + 4 + 1,
         "title, summary, reading, states, change, labels, reading beyond the axis"
     );
     assert!(texts.iter().all(|text| text.number("y") + 4.0 < top));
@@ -643,7 +751,7 @@ fn the_legend_of_changes() {
 fn small_and_odd_records() {
     let states = "state a start end\nedge a -> a stay\nedge a -> a any penalty 1\n";
     let labels: String = (0..64)
-        .map(|i| format!("label {} to {} changes {}\n", 1 + 4 * i, 5 + 4 * i, i % 2))
+        .map(|i| format!("label {} to {} changes {}\n", 1 + 4 * i, 5 + 4 * i, i % 4))
         .collect();
     let cases = [
         ("one", "readings -32768".to_string(), 1, 0),

@@ -1,6 +1,6 @@
 //! `run` and `show`: the examples of the scope paper, and refusals.
 mod common;
-use common::{folder, hex, run, run_in, PAPER_ANSWER, PAPER_PLAN};
+use common::{folder, hex, run, run_in, segment, PAPER_ANSWER, PAPER_PLAN};
 use std::fs;
 
 #[test]
@@ -45,12 +45,16 @@ fn a(grid: &str, class: u8, labels: &str, readings: &str) -> String {
     ))
 }
 
-/// Plan B of the paper: up from state 0 to state 1, down back.
-fn b(gap: u16) -> String {
-    answer(&format!(
+/// Plan B of the paper, as a text: up from state 0 to state 1, down back.
+fn text_b(gap: u16, labels: &str) -> String {
+    format!(
         "grid 0 to 6\nstate s start end\nstate t\nedge s->s stay\nedge t->t stay\nedge s->t up {gap} class 1\nedge t->s down 0 class 0\n\
-         readings 1 5 5 1\n"
-    ))
+         {labels}readings 1 5 5 1\n"
+    )
+}
+
+fn b(gap: u16) -> String {
+    answer(&text_b(gap, ""))
 }
 
 /// Rows are first, last, state, level, edge, cost, as the paper's section of examples gives them.
@@ -68,6 +72,39 @@ fn examples_of_the_paper() {
     assert_eq!(b(0), "1,1,0,1,,1\n2,3,1,5,2,1\n4,4,0,1,3,1\n");
     assert_eq!(b(5), "1,1,0,0,,2\n2,3,1,5,2,2\n4,4,0,1,3,2\n");
     assert_eq!(b(7), "1,4,0,3,,16\n");
+}
+
+/// The examples of ticket 2: labels of several changes, of one up and of one down.
+#[test]
+fn examples_of_labels() {
+    let toy = "2 1 0 4";
+    let four = "1,1,0,2,,3\n2,2,0,1,1,3\n3,3,0,0,1,3\n4,4,0,4,1,3\n";
+    assert_eq!(a("0 to 4", 1, "label 1 to 4 changes 3", toy), four);
+    let hump = text_b(0, "label 1 to 2 one up\nlabel 3 to 4 one down\n");
+    assert_eq!(answer(&hump), "1,1,0,1,,1\n2,3,1,5,2,1\n4,4,0,1,3,1\n");
+    assert_eq!(answer(&text_b(0, "label 2 to 3 one up\n")), "1,2,0,3,,9\n3,3,1,5,2,9\n4,4,0,1,3,9\n");
+    let rise = text_b(0, "label 1 to 4 one up\n");
+    assert_eq!(answer(&rise.replace("state t", "state t end")), "1,1,0,1,,12\n2,4,1,4,2,12\n");
+    let a_with = |label: &str| format!("grid 0 to 4\nstate s start end\nedge s -> s stay\nedge s -> s any class 1\n{label}\nreadings {toy}\n");
+    for (text, words) in [
+        (
+            a_with("label 1 to 4 changes 7"),
+            "label 1 (readings 1 to 4, 7 changes) cannot hold: there is room for 3 changes",
+        ),
+        (
+            a_with("label 1 to 4 one up"),
+            "label 1 (readings 1 to 4, one up) cannot hold: no edge has the kind up",
+        ),
+        // It starts and ends in the lower state, so whatever rises falls again.
+        (
+            rise,
+            "label 1 (readings 1 to 4, one up) cannot hold; possible there: no change, 2 changes",
+        ),
+    ] {
+        let done = run(&["run"], &run(&["make"], text.as_bytes()).out);
+        assert_eq!((done.status, done.out), (1, hex("83 0001 10")), "{text}");
+        assert_eq!(done.err, format!("standard input: {words} (refusal 16)\n"));
+    }
 }
 
 #[test]
@@ -95,7 +132,7 @@ fn refused_plans_have_answer_files() {
         (
             "01 0004 0000 0009  02 0003 01 01 01  04 0005 0001 0003 01  05 0004 0003 0004",
             13,
-            "standard input: label 1 goes to reading 3, but there are 2 (refusal 13)",
+            "standard input: label 1 (readings 1 to 3, 1 change) goes on after the last reading, 2 (refusal 13)",
         ),
     ];
     for (plan, number, words) in cases {
@@ -106,7 +143,7 @@ fn refused_plans_have_answer_files() {
     }
 }
 
-/// A grid of 1,024 levels needs 49,152 words, more than the program `segment` lends.
+/// A grid of 1,024 levels needs 196,608 words, more than the program `segment` lends.
 #[test]
 fn workspace_as_large_as_needed() {
     let plan = "01 0004 8000 83FF  02 0003 01 01 01  03 0006 00 00 00 0000 00  05 0004 8000 8002";
@@ -114,6 +151,27 @@ fn workspace_as_large_as_needed() {
         run(&["run"], &hex(plan)).out,
         hex("81 0008 0000000000000002  82 0008 0001 0002 00 8001 FF")
     );
+}
+
+/// The program `segment` has words for 40 states times levels, and `check` says of a plan that it has not.
+#[test]
+fn what_the_program_has_words_for() {
+    // A stay in state 0 alone: 3 and 4 cost 1 at level 3, as in the paper's example.
+    let plan = |hi: u8, states: u8| {
+        hex(&format!(
+            "01 0004 0000 {hi:04X}  02 0003 {states:02X} 01 01  03 0006 00 00 00 0000 00  05 0004 0003 0004"
+        ))
+    };
+    for (hi, states) in [(39, 1), (19, 2), (9, 4), (4, 8)] {
+        let (fits, more) = (plan(hi, states), plan(hi + 1, states));
+        assert_eq!((segment(&fits), segment(&more)), (hex(PAPER_ANSWER), hex("83 0001 0E")), "{states}");
+        assert_eq!([&fits, &more].map(|plan| run(&["run"], plan).out), [hex(PAPER_ANSWER), hex(PAPER_ANSWER)]);
+        let said = [&fits, &more].map(|plan| run(&["check"], plan).text());
+        assert!(said[0].contains("\n  workspace of a search: 7680 words\n"), "{}", said[0]);
+        let words = 7680 + 192 * usize::from(states);
+        let more = format!("\n  workspace of a search: {words} words, more than the 7680 of the program segment\n");
+        assert!(said[1].contains(&more), "{}", said[1]);
+    }
 }
 
 #[test]
@@ -132,9 +190,9 @@ fn a_full_record() {
 /// A belt that wears, worked out by hand: levels 31 and 42 leave 1 and 2, the change costs 50.
 #[test]
 fn a_belt() {
-    let text = "grid 0 to 79\nstate new start end\nstate worn end\nedge new -> new stay\nedge worn -> worn stay\nedge new -> worn up 6 penalty 50\n\
+    let text = "grid 30 to 49\nstate new start end\nstate worn end\nedge new -> new stay\nedge worn -> worn stay\nedge new -> worn up 6 penalty 50\n\
                 readings 31 30 31 42 43 42 41 42\n";
-    let plan = "01 0004 0000 004F  02 0003 02 01 03  03 0006 00 00 00 0000 00  03 0006 01 01 00 0000 00  03 0006 00 01 02 0006 06
+    let plan = "01 0004 001E 0031  02 0003 02 01 03  03 0006 00 00 00 0000 00  03 0006 01 01 00 0000 00  03 0006 00 01 02 0006 06
                 05 0010 001F 001E 001F 002A 002B 002A 0029 002A";
     let answer = "81 0008 0000000000000035  82 0008 0001 0003 00 001F FF  82 0008 0004 0008 01 002A 02";
     assert_eq!(run(&["make"], text.as_bytes()).out, hex(plan));
@@ -145,12 +203,12 @@ fn a_belt() {
 /// beside two penalties of 20.
 #[test]
 fn a_pad_with_a_label() {
-    let text = "grid 0 to 79\nstate tight start end\nstate leaking end\nedge tight -> tight stay\nedge leaking -> leaking stay\n\
-                edge tight -> leaking up 3 penalty 20\nedge leaking -> tight down 3 penalty 20\nlabel 3 to 5 changes 1\n\
+    let text = "grid 20 to 39\nstate tight start end\nstate leaking end\nedge tight -> tight stay\nedge leaking -> leaking stay\n\
+                edge tight -> leaking up 3 penalty 20\nedge leaking -> tight down 3 penalty 20\nlabel 3 to 5 one up\n\
                 readings 22 23 22 26 27 22 22 23\n";
-    let plan = "01 0004 0000 004F  02 0003 02 01 03  03 0006 00 00 00 0000 00  03 0006 01 01 00 0000 00  03 0006 00 01 02 0003 05
-                03 0006 01 00 03 0003 05  04 0005 0003 0005 01  05 0010 0016 0017 0016 001A 001B 0016 0016 0017";
-    let label = "04 0005 0003 0005 01";
+    let plan = "01 0004 0014 0027  02 0003 02 01 03  03 0006 00 00 00 0000 00  03 0006 01 01 00 0000 00  03 0006 00 01 02 0003 05
+                03 0006 01 00 03 0003 05  04 0005 0003 0005 08  05 0010 0016 0017 0016 001A 001B 0016 0016 0017";
+    let label = "04 0005 0003 0005 08";
     let answer = "81 0008 000000000000002B  82 0008 0001 0003 00 0016 FF  82 0008 0004 0005 01 001A 02  82 0008 0006 0008 00 0016 03";
     assert_eq!(run(&["make"], text.as_bytes()).out, hex(plan));
     assert_eq!(run(&["run"], &hex(plan)).out, hex(answer));

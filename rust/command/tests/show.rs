@@ -172,6 +172,14 @@ fn a_wrong_plan_is_told() {
             "label 1 (readings 3 to 9, 1 change) does not hold: the runs have 0 changes there",
         ),
         (
+            text.replace("readings", "label 1 to 3 one up\nlabel 3 to 9 changes 0\nlabel 9 to 16 one up\nreadings"),
+            "label 3 (readings 9 to 16, one up) does not hold: the runs have 0 changes there",
+        ),
+        (
+            text.replace("readings", "label 2 to 3 one down\nreadings"),
+            "label 1 (readings 2 to 3, one down) does not hold: the runs have 1 change there, of kind up",
+        ),
+        (
             "grid -9 to 9\nstate s start end\nedge s -> s stay\nreadings from -\n".to_string(),
             "run 2 has state 1, but the plan has 1 state",
         ),

@@ -264,7 +264,7 @@ fn wrong_files_and_usage() {
 }
 
 /// What is changed in the text, and how the plan file then differs.
-const OTHER_TEXTS: [(&str, &str, &str); 12] = [
+const OTHER_TEXTS: [(&str, &str, &str); 14] = [
     (
         EXCHANGED[0],
         EXCHANGED[1],
@@ -299,6 +299,16 @@ const OTHER_TEXTS: [(&str, &str, &str); 12] = [
         "2 to 5",
         "2 to 6",
         "label 1 is 'readings 2 to 6, 1 change' in the text and 'readings 2 to 5, 1 change' in the file",
+    ),
+    (
+        "changes 1",
+        "one up",
+        "label 1 is 'readings 2 to 5, one up' in the text and 'readings 2 to 5, 1 change' in the file",
+    ),
+    (
+        "changes 1",
+        "changes 0",
+        "label 1 is 'readings 2 to 5, no change' in the text and 'readings 2 to 5, 1 change' in the file",
     ),
     ("label 2 to 5 changes 1\n", "", "the text has 0 labels and the file 1"),
 ];

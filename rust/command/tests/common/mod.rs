@@ -69,6 +69,18 @@ pub fn run(args: &[&str], input: &[u8]) -> Done {
     run_in(&PathBuf::from(env!("CARGO_TARGET_TMPDIR")), args, input)
 }
 
+/// What the proved program `segment` writes: the one that `rt` made last, or the one that `tools/build` kept.
+pub fn segment(plan_file: &[u8]) -> Vec<u8> {
+    let paths = ["../../target/bin/segment", "../target/proved/segment"].map(|path| PathBuf::from(env!("CARGO_MANIFEST_DIR")).join(path));
+    let program = paths.into_iter().find(|path| path.exists());
+    let output = fed(
+        &mut Command::new(program.expect("segment; run in the root of the repository: rt check segment")),
+        plan_file,
+    );
+    assert!(output.status.success());
+    output.stdout
+}
+
 /// What python prints for a script that reads an input: an independent reader of what the program writes. Without python3 the test fails.
 pub fn python(script: &str, input: &[u8]) -> String {
     let output = fed(Command::new("python3").args(["-c", script]), input);
