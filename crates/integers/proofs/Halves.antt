@@ -1,8 +1,9 @@
 -- A number of 16 bits as a signed one and back, by way of 32 bits.
 -- Assumes nothing.
-use Prim.Native.Nat.{ℕ, suc, _+_, _-_, _≤_, _<_}
+use Prim.Native.Nat.{ℕ, suc, _+_, _%_, _≤_, _<_}
 use native.Mathlib.Omega.{arith}
-use mathlib.Core.Path.{_≡_, refl, sym, _∙_, ap, subst}
+use mathlib.Core.Path.{_≡_, refl, sym, _∙_, ap}
+use mathlib.Core.Logic.{⊎-elim}
 use lib.IntN.{ℤ, pos, negsuc, natAbs, _+ℤ_, _-ℤ_}
 use lib.Signed.{ltZ, nonNeg}
 use lib.Dec.{T}
@@ -12,33 +13,38 @@ use mir.Facts.{sfits-widen}
 use mir.Syntax.{w16, w32}
 use mir.Val.{Fits, SFits, toZ, ofZ}
 use mir.ValLaws.{toZ-ofZ, toZ-pos}
-use Rattle.integers.specs.Bytes.{signed16, bits16, signed-low, signed-high, less-turn}
+use Rattle.integers.specs.Bytes.{signed16, bits16, signed-low, signed-high}
+use Rattle.integers.specs.Rep.{nz, _⊖_, eqZ, sfitsOf, le-or-lt}
 
-module _ (n : ℕ) where
-  pub low-is : n < 32768 → toZ w16 n ≡ signed16 n
-  low-is h = toZ-pos w16 n h ∙ sym (signed-low n h)
+-- half the range taken away from a number of 16 bits
+module _ (m : ℕ) (b : m < 65536) where
+  lowered : toZ w32 m -ℤ pos 32768 ≡ pos m -ℤ pos 32768
+  lowered = ap (λ (z : ℤ). z -ℤ pos 32768) (toZ-pos w32 m (omega arith))
 
-  module _ (h : 32768 ≤ n) (b : n < 65536) where
-    minus-fits : SFits w16 (pos n -ℤ pos 65536)
-    minus-fits = rw (less-turn n b) (record { sfits = omega arith })
+  lowered-fits : SFits w16 (pos m -ℤ pos 32768)
+  lowered-fits = sfitsOf w16 (nz m ⊖ nz 32768) (omega arith) (omega arith)
 
-    wide : toZ w32 n ≡ pos n
-    wide = toZ-pos w32 n (omega arith)
+  pub lowered-32 : SFits w32 (toZ w32 m -ℤ pos 32768)
+  lowered-32 = rw lowered (sfits-widen tt lowered-fits)
 
-    wide-fits : SFits w32 (pos n -ℤ pos 65536)
-    wide-fits = record { sfits = omega (arith, minus-fits .sfits) }
+  back : toZ w32 (ofZ w32 (toZ w32 m -ℤ pos 32768)) ≡ pos m -ℤ pos 32768
+  back = toZ-ofZ w32 _ lowered-32 ∙ lowered
 
-    back : toZ w32 (ofZ w32 (toZ w32 n -ℤ pos 65536)) ≡ pos n -ℤ pos 65536
-    back = ap (λ (z : ℤ). toZ w32 (ofZ w32 (z -ℤ pos 65536))) wide ∙ toZ-ofZ w32 (pos n -ℤ pos 65536) wide-fits
+  pub lowered-16 : SFits w16 (toZ w32 (ofZ w32 (toZ w32 m -ℤ pos 32768)))
+  lowered-16 = rw back lowered-fits
 
-    pub narrow-32 : SFits w32 (toZ w32 n -ℤ pos 65536)
-    narrow-32 = subst (λ (z : ℤ). SFits w32 (z -ℤ pos 65536)) (sym wide) wide-fits
+  lowered-is : toZ w16 (ofZ w16 (toZ w32 (ofZ w32 (toZ w32 m -ℤ pos 32768)))) ≡ pos m -ℤ pos 32768
+  lowered-is = toZ-ofZ w16 _ lowered-16 ∙ back
 
-    pub narrow-16 : SFits w16 (toZ w32 (ofZ w32 (toZ w32 n -ℤ pos 65536)))
-    narrow-16 = subst (λ (z : ℤ). SFits w16 z) (sym back) minus-fits
+-- the half taken away from m, which is n turned by it: below the half the turn loses nothing, from the half on the whole range
+pub turned-is : (n m : ℕ) → n < 65536 → m ≡ (n + 32768) % 65536 → toZ w16 (ofZ w16 (toZ w32 (ofZ w32 (toZ w32 m -ℤ pos 32768)))) ≡ signed16 n
+turned-is n m b e = lowered-is m (omega arith) ∙ ⊎-elim high low (le-or-lt 32768 n)
+  where
+    high : 32768 ≤ n → pos m -ℤ pos 32768 ≡ signed16 n
+    high h = eqZ (nz m ⊖ nz 32768) (nz n ⊖ nz 65536) (omega arith) ∙ sym (signed-high n h)
 
-    pub narrow-is : toZ w16 (ofZ w16 (toZ w32 (ofZ w32 (toZ w32 n -ℤ pos 65536)))) ≡ signed16 n
-    narrow-is = toZ-ofZ w16 _ narrow-16 ∙ back ∙ sym (signed-high n h)
+    low : n < 32768 → pos m -ℤ pos 32768 ≡ signed16 n
+    low h = eqZ (nz m ⊖ nz 32768) (nz n) (omega arith) ∙ sym (signed-low n h)
 
 -- the way back: a signed number below zero is raised by 65536
 module _ (x : ℤ) (f : SFits w16 x) where

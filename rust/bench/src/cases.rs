@@ -87,6 +87,34 @@ pub fn moving() -> Vec<Moving> {
     all
 }
 
+/// Records in plan files that are only read.
+pub struct Decoding {
+    pub name: &'static str,
+    pub records: Vec<Vec<i16>>,
+}
+
+impl Decoding {
+    /// The usual plan of one state, with each record.
+    pub fn files(&self) -> Vec<Vec<u8>> {
+        let plan = any(80, class_for(80));
+        self.records.iter().map(|readings| plan.file_with(readings)).collect()
+    }
+}
+
+/// So many records that a processor cannot learn their signs by heart.
+const RECORDS: usize = 64;
+
+/// Current around zero, where the sign of a reading says nothing about that of the next one, and the same without signs.
+pub fn decoding() -> Vec<Decoding> {
+    let readings = around_zero(RECORDS * LONGEST);
+    let above: Vec<i16> = readings.iter().map(|z| z.abs()).collect();
+    let case = |name, readings: Vec<i16>| Decoding {
+        name,
+        records: readings.chunks(LONGEST).map(<[_]>::to_vec).collect(),
+    };
+    vec![case("around zero, random signs", readings), case("around zero, one sign", above)]
+}
+
 /// Graphs and records that make many pieces.
 pub fn worst() -> Vec<Case> {
     let levels = 1_024;

@@ -152,3 +152,8 @@ pub fn trace(n: usize, levels: i64) -> Vec<i16> {
 pub fn ramp(n: usize, levels: i64) -> Vec<i16> {
     (0..n as i64).map(|t| ((levels - 1) * t / n as i64 - levels / 2) as i16).collect()
 }
+
+pub fn around_zero(n: usize) -> Vec<i16> {
+    let mut rng = Rng(12345);
+    (0..n).map(|_| rng.noise(20.0).round() as i16).collect()
+}

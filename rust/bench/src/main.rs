@@ -1,6 +1,7 @@
 //! The proved search against the same algorithm in Rust and against a dense programme, as ratios in one run.
 mod cases;
 mod clock;
+mod decoding;
 mod dense;
 mod graphs;
 mod layer;
@@ -72,8 +73,14 @@ fn run(repeats: usize, with_worst: bool, only: &str, page: Option<&str>) -> Exit
         |moving| &moving.case.name,
         |moving| moving::measure(moving, repeats),
     );
+    let decoding = measure_all(
+        cases::decoding(),
+        only,
+        |decoding| decoding.name,
+        |decoding| decoding::measure(decoding, repeats),
+    );
     let worst = if with_worst { searches(cases::worst(), 1) } else { vec![] };
-    let text = page::write(&usual, &growing, &worst, &moving);
+    let text = page::write(&usual, &growing, &worst, &moving, &decoding);
     print!("{text}");
     if let Some(path) = page {
         if let Err(error) = std::fs::write(path, with_notes(&text, path)) {

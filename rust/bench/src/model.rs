@@ -72,6 +72,11 @@ impl Plan {
 
     /// The bytes of a plan file, with one reading.
     pub fn file(&self) -> Vec<u8> {
+        self.file_with(&[0])
+    }
+
+    /// The bytes of a plan file with these readings.
+    pub fn file_with(&self, readings: &[i16]) -> Vec<u8> {
         let mut file = fields::grid(self.lo as i16, self.hi as i16);
         file.extend(fields::states(self.states as u8, self.start, self.end));
         for e in &self.edges {
@@ -87,7 +92,7 @@ impl Plan {
         for l in &self.labels {
             file.extend(fields::label(l.p as u16, l.q as u16, l.c as u8));
         }
-        file.extend(fields::readings(&[0]));
+        file.extend(fields::readings(readings));
         file
     }
 }

@@ -1,4 +1,5 @@
 //! The tables, as a Markdown page.
+use crate::decoding::Decoded;
 use crate::measure::{Measured, Times};
 use crate::moving::Moved;
 
@@ -22,6 +23,8 @@ least of several runs, the programmes by turns in one process. Times are millise
   the Rust version.
 - **moving window**: `yeldaski_windows`, against one pass forward for each part in Rust. Times are nanoseconds for each reading handed to a search: the
   time divided by parts × w. **pass**: one pass over the same record (of the long one its first 4,096 readings), as in cost only, divided by its readings.
+- **decoding**: `yeldaski_read_plan`, which reads the plan too, against two loops over the bytes of the readings in Rust: as one writes it, and with a
+  test for the sign that the compiler cannot remove.
 ";
 
 fn ratio(a: f64, b: f64) -> String {
@@ -69,6 +72,20 @@ fn windows(rows: &[Moved]) -> String {
     text
 }
 
+fn decoding(rows: &[Decoded]) -> String {
+    if rows.is_empty() {
+        return String::new();
+    }
+    let mut text = String::from("\n## Decoding 4,096 readings, nanoseconds for each reading\n\n");
+    text += "| case | proved | Rust | Rust, testing | proved / Rust | testing / proved |\n|---|---|---|---|---|---|\n";
+    for row in rows {
+        let Decoded { name, proved, rust, testing } = row;
+        let ratios = [ratio(*proved, *rust), ratio(*testing, *proved)].join(" | ");
+        text += &format!("| {name} | {proved:.2} | {rust:.2} | {testing:.2} | {ratios} |\n");
+    }
+    text
+}
+
 fn pieces(rows: &[&Measured]) -> String {
     if rows.is_empty() {
         return String::new();
@@ -81,13 +98,14 @@ fn pieces(rows: &[&Measured]) -> String {
     text
 }
 
-pub fn write(usual: &[Measured], growing: &[Measured], worst: &[Measured], moving: &[Moved]) -> String {
+pub fn write(usual: &[Measured], growing: &[Measured], worst: &[Measured], moving: &[Moved], decoded: &[Decoded]) -> String {
     let mut text = String::from(TEXT);
     text += &table("Whole search, n = 4,096", "case", usual, |row| &row.whole);
     text += &table("Cost only, n = 4,096", "case", usual, |row| &row.cost);
     text += &table("How a whole search grows", "case", growing, |row| &row.whole);
     text += &table("Worst known records, whole search, n = 4,096", "case", worst, |row| &row.whole);
     text += &windows(moving);
+    text += &decoding(decoded);
     let all: Vec<&Measured> = usual.iter().chain(worst).collect();
     text + &pieces(&all)
 }
