@@ -50,7 +50,7 @@ module _ (n : ℕ) where
   unfolding signed16
   signed-high h = rw (le-ltb n 32768 h)
 
-  pub less-turn : n < 65536 → pos n -ℤ pos 65536 ≡ negsuc (65536 - suc n)
+  less-turn : n < 65536 → pos n -ℤ pos 65536 ≡ negsuc (65536 - suc n)
   less-turn b = rw (lt-ltb n 65536 b)
 
 pub signed-bits : (z : ℤ) → SFits w16 z → signed16 (bits16 z) ≡ z
