@@ -12,6 +12,9 @@
  * A label (p, q, c) speaks of the boundaries p to q - 1, boundary i lying between readings i and i + 1. With c from 0 to 7 exactly c of them are
  * changes (edges of kind 1 to 4); with 8 exactly one is, and it has kind 2 (up); with 9 exactly one is, and it has kind 3 (down).
  *
+ * At an edge of kind 0 (stay) the level stays the same, at one of kind 1 (any) it moves to any other level, at 2 (up) it rises and at 3 (down) it
+ * falls by at least the gap, at 4 (abs) it does either. With gap 0 the kinds 2 to 4 may keep the level.
+ *
  * A run is five numbers: first reading, last reading (both from 1), state, level, number of the edge that enters it (255 for the first run).
  *
  * Refusals (0 means none). "Plan reader" below stands for what can be wrong in a plan file: fields are read in turn, the first refused field ends

@@ -6,11 +6,13 @@ use Prim.Native.Nat.{ℕ, zero, suc, _+_, _*_, _-_, _≤_, _<_}
 use native.Mathlib.Omega.{arith}
 use Rattle.integers.specs.Rep.{le-or-lt}
 use Rattle.quadratic.specs.declared.Quad.{Quad}
-use Rattle.quadratic.specs.Quad.{up, down, value, flat, none, Lowest, Stays, Under, Over, Fine}
+use Rattle.quadratic.specs.Fine.{value-most, fine-sized}
+use Rattle.quadratic.specs.Quad.{up, down, value, flat, none, Small, Sized, Lowest, Stays, Under, Over, Fine}
 use Rattle.curve.specs.declared.Low.{Low}
 use Rattle.curve.specs.declared.Run.{Run}
 use Rattle.curve.specs.Pieces.{Emits, Appended}
 use Rattle.curve.specs.Lists.{emits-append, emits-then, emits-as}
+use Rattle.curve.proofs.Laws.{small}
 use Rattle.curve.specs.Lows.{top, noLow, costs, Least, LeastIn, Drops, Prefixed, Lowered, lowest, prefixOf, lowest-new, lowest-stays, lowest-falls, prefix-new, prefix-old}
 
 pub drops-crossed : (p : Quad) (best a v base r : ℕ) → a ≤ v → Over (flat best) p (base + v) → Stays (flat best) p (base + a) (base + v) r → Drops p best a v base (r - base + 1)
@@ -30,10 +32,33 @@ drops-crossed p best a v base r h o t = record {
 pub drops-first : (p : Quad) (best a v base : ℕ) → a ≤ v → Over (flat best) p (base + a) → Drops p best a v base a
 drops-first p best a v base h o = record { low = omega arith; high = h; before = λ m u w. absurd (omega arith); at = o }
 
+-- ---- a piece where it is in force
+pub fine-on : (P : ℕ → Quad) (L base x e : ℕ) (q : Quad) → base + L ≤ 262144 → ((j : ℕ) → j < L → Fine 1048576 18014398509481984 (P j) (base + j)) → x ≤ e → e < L → ((j : ℕ) → x ≤ j → j ≤ e → P j ≡ q)
+    → Small q × ((v : ℕ) → base + x ≤ v → v ≤ base + e → down q v ≤ up q v)
+fine-on P L base x e q r f h k i = (small (subst Sized (i x (omega arith) h) (fine-sized (record { readings = omega arith; cost = omega arith; place = omega arith }) (f x (omega arith)))), whole)
+  where
+    whole : (v : ℕ) → base + x ≤ v → v ≤ base + e → down q v ≤ up q v
+    whole v u t =
+        let w : base + (v - base) ≡ v = omega arith in
+        subst (λ (n : ℕ). down q n ≤ up q n) w (subst (λ (p : Quad). down p (base + (v - base)) ≤ up p (base + (v - base))) (i (v - base) (omega arith) (omega arith)) (f (v - base) (omega arith) .whole))
+
+-- its values are none or less
+pub fine-most : (P : ℕ → Quad) (L base : ℕ) → base + L ≤ 262144 → ((j : ℕ) → j < L → Fine 1048576 18014398509481984 (P j) (base + j)) → (j : ℕ) → j < L → costs base P j ≤ none
+fine-most P L base r f j h = value-most (record { readings = omega arith; cost = omega arith; place = omega arith }) (f j h)
+
+-- where it is least: v is the place
+module _ (p : Quad) (a e base v w : ℕ) (whole : (u : ℕ) → base + a ≤ u → u ≤ base + e → down p u ≤ up p u) (l : Lowest p (base + a) (base + e) v) (ew : w ≡ value p v) where
+  pub at-most : (m : ℕ) → a ≤ m → m ≤ e → w ≤ value p (base + m)
+  at-most m u t = omega (arith, ew, l .least (base + m) (omega arith) (omega arith), whole (base + m) (omega arith) (omega arith), whole v (l .low) (l .high))
+
+  -- at its level
+  pub at-level : w ≡ value p (base + (v - base))
+  at-level = let e : base + (v - base) ≡ v = omega (arith, l .low) in rw e ew
+
 -- ---- a piece's part of the least so far
 module _ (p : Quad) (base a e v w : ℕ) (whole : (u : ℕ) → base + a ≤ u → u ≤ base + e → down p u ≤ up p u) (l : Lowest p (base + a) (base + e) (base + v)) (ew : w ≡ value p (base + v)) where
   at-least : (j : ℕ) → a ≤ j → j ≤ e → w ≤ value p (base + j)
-  at-least j u t = omega (arith, ew, l .least (base + j) (omega arith) (omega arith), whole (base + j) (omega arith) (omega arith), whole (base + v) (l .low) (l .high))
+  at-least = at-most p a e base (base + v) w whole l ew
 
   goes-down : (j : ℕ) → a ≤ j → j < v → value p (base + (j + 1)) < value p (base + j)
   goes-down j u t =
@@ -94,20 +119,14 @@ pub lowered-empty : (best : Low) (p : Quad) (a b base : ℕ) → b < a → Lower
 lowered-empty best p a b base h = record { least = λ m u t. absurd (omega arith); is = inl refl }
 
 module _ (best : Low) (p : Quad) (a b base v w : ℕ) (whole : (u : ℕ) → base + a ≤ u → u ≤ base + b → down p u ≤ up p u) (l : Lowest p (base + a) (base + b) v) (ew : w ≡ value p v) where
-  back : base + (v - base) ≡ v
-  back = omega (arith, l .low)
-
-  at-most : (m : ℕ) → a ≤ m → m ≤ b → w ≤ value p (base + m)
-  at-most m u t = omega (arith, ew, l .least (base + m) (omega arith) (omega arith), whole (base + m) (omega arith) (omega arith), whole v (l .low) (l .high))
-
   pub lowered-new : w < best .value → Lowered best p a b base (record { value = w; level = v - base })
   lowered-new h = record {
-    least = at-most;
-    is = inr ((omega (arith, l .low), omega (arith, l .low, l .high)), (rw back ew, (h, λ m u t. omega (arith, ew, l .first (base + m) (omega arith) (omega (arith, l .low)), l .high, whole (base + m) (omega arith) (omega (arith, l .low, l .high)), whole v (l .low) (l .high)))));
+    least = at-most p a b base v w whole l ew;
+    is = inr ((omega (arith, l .low), omega (arith, l .low, l .high)), (at-level p a b base v w whole l ew, (h, λ m u t. omega (arith, ew, l .first (base + m) (omega arith) (omega (arith, l .low)), l .high, whole (base + m) (omega arith) (omega (arith, l .low, l .high)), whole v (l .low) (l .high)))));
   }
 
   pub lowered-old : best .value ≤ w → Lowered best p a b base best
-  lowered-old h = record { least = λ m u t. omega (arith, at-most m u t); is = inl refl }
+  lowered-old h = record { least = λ m u t. omega (arith, at-most p a b base v w whole l ew m u t); is = inl refl }
 
 -- best is the least of G at those levels of [from, to] that are below x
 pub record Till (G : ℕ → ℕ) (from to x : ℕ) (best : Low) : Type 0 where

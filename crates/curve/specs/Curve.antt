@@ -16,9 +16,10 @@ use Rattle.quadratic.specs.declared.Quad.{Quad}
 use Rattle.quadratic.specs.Quad.{up, down, value, none, flat, Small, Sized, Fine, pick, raised, pushed, moved, mirrored, better}
 use Rattle.quadratic.specs.Fine.{pickN, Bounds, far, plus, square-most, fine-sized, fine-none, fine-flat, fine-wider, fine-raised, value-raised, fine-pushed, value-pushed, fine-moved, value-moved, mirror-sum, mirror-rest, fine-mirrored, value-mirrored, value-better, fine-better, value-most, kinds}
 use Rattle.curve.specs.declared.Low.{Low}
+use Rattle.curve.specs.declared.Two.{Two}
 use Rattle.curve.specs.Pieces.{piece, noneOnly, Formed, Kept, Same, Apart, Made, Held, Lent, Copyable, Copied, shiftOf, mirrorOf, Turnable, Yields}
 use Rattle.curve.specs.Lists.{same-built, kept-same, opened, count-most, closed, copied-built, none-only}
-use Rattle.curve.specs.Lows.{top, costs, Least, LeastIn, lowest, prefixOf, lowest-zero, lowest-new, lowest-old, lowest-among, prefix-new, prefix-old}
+use Rattle.curve.specs.Lows.{top, costs, Least, LeastIn, Beside, TwoLeast, lowest, prefixOf, lowest-zero, lowest-new, lowest-old, lowest-among, prefix-new, prefix-old}
 
 -- a piece that costs x at v
 pub record Costs (A B v : ℕ) (q : Quad) (x : ℕ) : Type 0 where
@@ -139,9 +140,13 @@ made-curve {A} {B} {base} F r m f = record {
   at = λ j h. subst (λ (q : Quad). Costs A B (base + j) q (F j)) (sym (m .is j h)) (f j h);
 }
 
+-- a number at each level
+pub curve-flats : {A B base L : ℕ} (F : ℕ → ℕ) {ws ws′ : List ℕ} {dst : ℕ} → ((j : ℕ) → j < L → (F j ≡ none) ⊎ (F j < B)) → dst + 4 * L ≤ length ws → Made (λ (j : ℕ). flat (F j)) ws ws′ dst L → Curve A B base L ws′ dst F
+curve-flats {A} {B} {base} F k r m = made-curve F r m (λ j h. record { fine = ⊎-elim (λ e. rw e (fine-none A B (base + j))) (λ e. fine-flat A B (base + j) (F j) e) (k j h); is = omega arith })
+
 -- one number everywhere
 pub curve-flat : {A B base L x : ℕ} {ws ws′ : List ℕ} {dst : ℕ} → (x ≡ none) ⊎ (x < B) → dst + 4 * L ≤ length ws → Made (λ (j : ℕ). flat x) ws ws′ dst L → Curve A B base L ws′ dst (λ (j : ℕ). x)
-curve-flat {A} {B} {base} {L} {x} k r m = made-curve (λ (j : ℕ). x) r m (λ j h. record { fine = ⊎-elim (λ e. rw e (fine-none A B (base + j))) (λ e. fine-flat A B (base + j) x e) k; is = omega arith })
+curve-flat {x = x} k = curve-flats (λ (j : ℕ). x) (λ j h. k)
 
 abbrev pub less : ℕ → ℕ → ℕ
 less x y = pickN (leb x y) x y
@@ -227,6 +232,15 @@ curve-least-in {base = base} {L} {ws} {o} {F} {from} {to} {r} c h t = record { s
       least = λ m u v. omega (arith, t .least m u v, c .at m (omega arith) .is);
       first = λ m u v. omega (arith, t .first m u v, c .at m (omega (arith, t .high)) .is);
     }
+
+-- the two least
+pub curve-two : {A B base L : ℕ} {ws : List ℕ} {o : ℕ} {F : ℕ → ℕ} {r : Two} → Curve A B base L ws o F → TwoLeast (costs base (piece ws o L)) L r → TwoLeast F L r
+curve-two c t = record {
+  least = λ m h. omega (arith, t .least m h, c .at m h .is);
+  is = ⊎-elim (λ k. inl k) (λ k. inr (k .0, k .1 ∙ c .at _ (k .0) .is)) (t .is);
+  others = λ m h n. omega (arith, t .others m h n, c .at m h .is);
+  second = ⊎-elim (λ k. inl k) (λ b. inr (record { at = b .at; inside = b .inside; other = b .other; is = b .is ∙ c .at (b .at) (b .inside) .is })) (t .second);
+}
 
 -- lists side by side, by their numbers, share no word
 pub slots-apart : (len i k : ℕ) → (i ≡ k → ⊥) → Apart (i * len) (k * len) len

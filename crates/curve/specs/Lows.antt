@@ -13,6 +13,7 @@ use Rattle.quadratic.specs.Fine.{pickN}
 use Rattle.quadratic.specs.Quad.{value, none, flat, pick, Fine, up, down, Under, Over}
 use Rattle.curve.specs.declared.Low.{Low}
 use Rattle.curve.specs.declared.Run.{Run}
+use Rattle.curve.specs.declared.Two.{Two}
 use Rattle.curve.specs.Pieces.{piece, Emits}
 
 -- more than any value
@@ -64,6 +65,30 @@ pub record Prefixed (ws ws′ : List ℕ) (dst base a e : ℕ) (p : Quad) (run r
 pub record Lowered (best : Low) (p : Quad) (a b base : ℕ) (r : Low) : Type 0 where
   pub least : (m : ℕ) → a ≤ m → m ≤ b → r .value ≤ value p (base + m)
   pub is : (r ≡ best) ⊎ (((a ≤ r .level) × (r .level ≤ b)) × ((r .value ≡ value p (base + r .level)) × ((r .value < best .value) × ((m : ℕ) → a ≤ m → m < r .level → r .value < value p (base + m)))))
+
+-- x is G's at a level below L that is not i
+pub record Beside (G : ℕ → ℕ) (L i x : ℕ) : Type 0 where
+  pub at : ℕ
+  pub inside : at < L
+  pub other : at ≡ i → ⊥
+  pub is : x ≡ G at
+
+-- r is the least of G at the levels below L, a level that has it, and the least at the other levels; none where there is no level, or no other
+pub record TwoLeast (G : ℕ → ℕ) (L : ℕ) (r : Two) : Type 0 where
+  pub least : (m : ℕ) → m < L → r .value ≤ G m
+  pub is : ((r .value ≡ none) × (r .level ≡ 0)) ⊎ ((r .level < L) × (r .value ≡ G (r .level)))
+  pub others : (m : ℕ) → m < L → (m ≡ r .level → ⊥) → r .second ≤ G m
+  pub second : (r .second ≡ none) ⊎ Beside G L (r .level) (r .second)
+
+-- from the levels below a to those up to e, where p is in force
+pub record TwoLowered (best : Two) (p : Quad) (a e base : ℕ) (r : Two) : Type 0 where
+  pub on : (G : ℕ → ℕ) → ((j : ℕ) → a ≤ j → j ≤ e → (G j ≡ value p (base + j)) × (G j ≤ none)) → TwoLeast G a best → TwoLeast G (e + 1) r
+
+-- r is the less of best and of p at v, where v lies in [x, y]
+pub record LessAt (best : ℕ) (p : Quad) (v x y r : ℕ) : Type 0 where
+  pub low : r ≤ best
+  pub there : x ≤ v → v ≤ y → r ≤ value p v
+  pub is : (r ≡ best) ⊎ (((x ≤ v) × (v ≤ y)) × (r ≡ value p v))
 
 -- ---- laws
 pub lowest-zero : (G : ℕ → ℕ) → lowest G 0 ≡ top

@@ -114,6 +114,10 @@ shiftOf g F j = pick (leb g j) (moved g (F (j - g))) (flat none)
 abbrev pub mirrorOf : ℕ → ℕ → (ℕ → Quad) → ℕ → Quad
 mirrorOf s L F j = mirrored s (F (L - 1 - j))
 
+-- c at every level but one, where it is d
+abbrev pub constantBut : ℕ → ℕ → ℕ → ℕ → Quad
+constantBut c at d j = flat (pickN (eqb j at) d c)
+
 -- it may be mirrored
 pub record Turnable (s : ℕ) (q : Quad) : Type 0 where
   pub sized : Sized q

@@ -17,8 +17,8 @@ ghost use mathlib.Core.Logic.{_⊎_};
 ghost use Prim.Native.Nat.{ℕ, _+_, _*_, _-_, _≤_, _<_};
 ghost use lib.ListN.{length, getD};
 ghost use Rattle.quadratic.specs.Quad.{Small, Sized, Fine, raised, pushed, moved, mirrored, better, value, flat, none, up, down, Under, Over, Stays};
-ghost use Rattle.curve.specs.Lows.{LeastIn, Drops, Prefixed, Lowered, prefixOf, costs, lowest};
-ghost use Rattle.curve.specs.Pieces.{Yields, noneOnly, quadAt, Kept, Built, Is, Formed, piece, Stored, Appended, Emits, Made, Apart, Held, Lent, Copyable, Copied, shiftOf, mirrorOf, Turnable};
+ghost use Rattle.curve.specs.Lows.{LeastIn, TwoLeast, TwoLowered, LessAt, Drops, Prefixed, Lowered, prefixOf, costs, lowest};
+ghost use Rattle.curve.specs.Pieces.{Yields, noneOnly, quadAt, Kept, Built, Is, Formed, piece, Stored, Appended, Emits, Made, Apart, Held, Lent, Copyable, Copied, shiftOf, mirrorOf, constantBut, Turnable};
 
 // The piece at a place, without its end.
 fn load(ws: &[u64], at: usize) -> Quad
@@ -449,12 +449,94 @@ pub fn least_in(ws: &[u64], f: usize, from: u64, to: u64, levels: u64, base: u64
     best
 }
 
+// The least value, a level that has it, and the least at the other levels.
+pub struct Two {
+    pub value: u64,
+    pub level: u64,
+    pub second: u64,
+}
+
+// The less of best and of p at v, where v lies in [x, y].
+fn lesser_at(best: u64, p: Quad, v: u64, x: u64, y: u64) -> u64
+    requires { ⌜ Small p × ((u : ℕ) → x ≤ u → u ≤ y → down p u ≤ up p u) ⌝ }
+    requires { ⌜ y < 262144 ⌝ }
+    ensures { λ r. ⌜ LessAt best p v x y r ⌝ }
+{
+    if v < x {
+        return best;
+    }
+    if y < v {
+        return best;
+    }
+    lesser(best, quadratic::eval(p, v))
+}
+
+// best of the levels below a, with those from a to e, at which p is in force. p falls to its least and does not fall after it, so that beside
+// the least are the least of its other values.
+fn lower_two(best: Two, p: Quad, a: u64, e: u64, base: u64) -> Two
+    requires { ⌜ Small p × ((v : ℕ) → base + a ≤ v → v ≤ base + e → down p v ≤ up p v) ⌝ }
+    requires { ⌜ (a ≤ e) × ((0 < base) × (base + e < 262144)) ⌝ }
+    ensures { λ r. ⌜ TwoLowered best p a e base r ⌝ }
+{
+    let v = quadratic::lowest_min(p, base + a, base + e);
+    let w = quadratic::eval(p, v);
+    if best.value <= w {
+        let second = lesser(best.second, w);
+        return Two {
+            value: best.value,
+            level: best.level,
+            second,
+        };
+    }
+    let before = lesser_at(best.value, p, v - 1, base + a, base + e);
+    let second = lesser_at(before, p, v + 1, base + a, base + e);
+    Two {
+        value: w,
+        level: v - base,
+        second,
+    }
+}
+
+// The least of f, a level that has it, and the least at the other levels, in one pass; none where there is no other level.
+pub fn two_least(ws: &[u64], f: usize, levels: u64, base: u64) -> Two
+    requires { ⌜ Held (now ws) f levels × ((0 < base) × (base + levels ≤ 262144)) ⌝ }
+    requires { ⌜ ((j : ℕ) → j < levels → Fine 1048576 18014398509481984 (piece (now ws) f levels j) (base + j)) ⌝ }
+    ensures { λ r. ⌜ TwoLeast (costs base (piece (now (ws .entry)) f levels)) levels r ⌝ }
+{
+    let mut best = Two {
+        value: quadratic::NONE,
+        level: 0,
+        second: quadratic::NONE,
+    };
+    let mut i: usize = 0;
+    let mut x: u64 = 0;
+    while x < levels {
+        let at = f + 4 * i;
+        let e = ws[at];
+        let p = load(ws, at);
+        best = lower_two(best, p, x, e, base);
+        i += 1;
+        x = e + 1;
+    }
+    best
+}
+
 // dst: c at every level.
 pub fn constant(ws: &mut [u64], dst: usize, levels: u64, c: u64)
     requires { ⌜ dst + 4 * levels ≤ length (now ws) ⌝ }
     ensures { λ r. ⌜ Made (λ (j : ℕ). flat c) (now (ws .entry)) (now (ws .exit)) dst levels ⌝ }
 {
     constant_to(ws, dst, 0, 0, levels, c);
+}
+
+// dst: c at every level but one, where it is d.
+pub fn constant_but(ws: &mut [u64], dst: usize, levels: u64, c: u64, at: u64, d: u64)
+    requires { ⌜ (dst + 4 * levels ≤ length (now ws)) × (at < levels) ⌝ }
+    ensures { λ r. ⌜ Made (constantBut c at d) (now (ws .entry)) (now (ws .exit)) dst levels ⌝ }
+{
+    let below = constant_to(ws, dst, 0, 0, at, c);
+    let with = constant_to(ws, dst, below, at, at + 1, d);
+    constant_to(ws, dst, with, at + 1, levels, c);
 }
 
 // The words of the list at f put at dst: four for each of the pieces, whose number is returned.

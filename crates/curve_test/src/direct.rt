@@ -61,7 +61,7 @@ fn permits(number: u64, gap: u64, i: u64, j: u64) -> bool {
         return i == j;
     }
     if number == 1 {
-        return true;
+        return i != j;
     }
     if number == 2 {
         return std::num::wrapping_add_u64(i, gap) <= j;

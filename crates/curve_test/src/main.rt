@@ -199,9 +199,13 @@ fn test_levels(ws: &mut [u64], levels: u64) -> u64 {
 fn main() {
     let mut ws = [0u64; 1800];
     let one = test_levels(&mut ws, 1);
+    let two = test_levels(&mut ws, 2);
     let few = test_levels(&mut ws, 7);
     let many = test_levels(&mut ws, 40);
-    let wrong = std::num::wrapping_add_u64(one, std::num::wrapping_add_u64(few, many));
+    let wrong = std::num::wrapping_add_u64(
+        std::num::wrapping_add_u64(one, two),
+        std::num::wrapping_add_u64(few, many),
+    );
     io::write_all(STDOUT_FILENO, b"wrong: ");
     io::print_decimal(STDOUT_FILENO, wrong);
     io::write_all(STDOUT_FILENO, b"\n");

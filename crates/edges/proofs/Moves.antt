@@ -1,25 +1,25 @@
 -- The lists of an edge, one after the other. Assumes nothing.
-use mathlib.Core.Path.{_≡_, refl, sym, ap, _∙_}
+use mathlib.Core.Path.{_≡_, refl, sym, ap, _∙_, subst}
 use mathlib.Core.Logic.{_⊎_, inl, inr, ⊎-elim}
 use mathlib.Core.Bool.{Bool, true, false, cond}
 use mathlib.Core.List.{List}
 use Prim.Native.Nat.{ℕ, _+_, _*_, _-_, _≤_, _<_, min}
 use native.Mathlib.Omega.{arith}
-use lib.Dec.{leb, ltb}
+use lib.Dec.{leb, ltb, eqb}
 use lib.ListN.{length}
-use borrow.Author.Tests.{le-leb, lt-leb, lt-ltb, le-ltb}
+use borrow.Author.Tests.{le-leb, lt-leb, lt-ltb, le-ltb, eqb-true, eqb-false}
 use Rattle.integers.specs.Rep.{le-or-lt}
 use Rattle.quadratic.specs.Quad.{better, raised, pushed, flat, none}
 use Rattle.quadratic.specs.Fine.{pickN, far}
-use Rattle.curve.specs.declared.Low.{Low}
-use Rattle.curve.specs.Pieces.{piece, noneOnly, Kept, Made, shiftOf, mirrorOf}
-use Rattle.curve.specs.Lows.{lowest, prefixOf, costs, LeastIn, Least}
-use Rattle.curve.specs.Curve.{Curve, Limits, curve-as, curve-prefix, curve-shift, curve-mirror, curve-least, curve-loss, curve-flat, curve-wider, curve-costs, curve-none, curve-most, curve-value, curve-least-in}
+use Rattle.curve.specs.declared.Two.{Two}
+use Rattle.curve.specs.Pieces.{piece, noneOnly, Kept, Made, shiftOf, mirrorOf, constantBut}
+use Rattle.curve.specs.Lows.{lowest, prefixOf, costs, Beside, TwoLeast}
+use Rattle.curve.specs.Curve.{Curve, Limits, curve-as, curve-prefix, curve-shift, curve-mirror, curve-least, curve-loss, curve-flats, curve-wider, curve-costs, curve-none, curve-most, curve-value, curve-two}
 use Rattle.plan.specs.declared.Kind.{Kind}
 use Rattle.plan.specs.declared.Kind.the-variants.{Stay, Any, Up, Down, Abs}
-use Rattle.model.specs.Index.{noCost, prefixMin, suffixMin, upMin, downMin, edgeMin, edge-min, edge-min-none, prefix-met, prefix-least}
+use Rattle.model.specs.Index.{noCost, prefixMin, suffixMin, upMin, downMin, edgeMin, Permitted, edge-min, edge-min-is, edge-min-none, prefix-least}
 use Rattle.model.specs.Held.{raise}
-use Rattle.edges.specs.Edge.{Into, Joint, Hand, Sound, Ready, Spared, Moved, Joined, Taken, WithLoss, anyMin, kept-off, spared-refl, spared-then, spared-curve, spared-swap, apart-swap, hand-swap, min-regroup, raise-min, raise-none, less-min, plus-raise, lowest-prefix}
+use Rattle.edges.specs.Edge.{Into, Joint, Hand, Sound, Ready, Spared, Moved, Joined, Taken, WithLoss, kept-off, spared-refl, spared-then, spared-curve, spared-swap, apart-swap, hand-swap, min-regroup, raise-min, raise-none, less-min, plus-raise, lowest-prefix}
 
 pub lower-limits : {A B base L : ℕ} (C : ℕ) → C ≤ B → Limits A B base L → Limits A C base L
 lower-limits C h l = record { readings = l .readings; cost = omega (arith, l .cost); low = l .low; high = l .high }
@@ -48,13 +48,6 @@ module _ {A B base L : ℕ} (l : Limits A B base L) {ws : List ℕ} {f : ℕ} {G
           (λ g. le-leb gap (L - 1 - j) g ∙ sym (lt-ltb (j + gap) L (omega arith)))
           (λ g. lt-leb gap (L - 1 - j) g ∙ sym (le-ltb (j + gap) L (omega arith)))
           (le-or-lt gap (L - 1 - j))
-
-  -- the least on the whole grid
-  pub any-is : (r : Low) → 0 < L → LeastIn (costs base (piece ws f L)) 0 (L - 1) r → r .value ≡ prefixMin G (L - 1)
-  any-is r h t =
-      let g = curve-least-in c (omega arith) t .some (omega arith) in
-      let (i, k, e) = prefix-met G (L - 1) in
-      omega (arith, g .is, g .high, prefix-least G (r .level) (L - 1) (g .high), g .least i (omega arith) k)
 
 -- ---- up: the running minimum, shifted
 module _ {ws w1 : List ℕ} {base L f next work : ℕ} (h : Into f next work L (length ws)) (m1 : Made (prefixOf base (piece ws f L)) ws w1 next L) where
@@ -86,17 +79,56 @@ module _ {ws w1 : List ℕ} {base L f next work : ℕ} (h : Into f next work L (
         curve = λ A B G l c. curve-as (downMin L gap G) (down-is l c gap) (curve-mirror l (down3 l c) (omega (arith, h .room-work, m1 .kept .size, m2 .kept .size, m3 .kept .size)) m4);
       }
 
--- ---- any: one number
-pub any-moved : {ws w1 : List ℕ} {base L f next work : ℕ} {r : Low} → Into f next work L (length ws) → 0 < L → LeastIn (costs base (piece ws f L)) 0 (L - 1) r → Made (λ (j : ℕ). flat (r .value)) ws w1 work L → Moved (anyMin L) base L ws w1 f next work
+-- ---- any: the least of all, and the second least at a level that has it
+module _ {L : ℕ} {G : ℕ → ℕ} (some-level : 0 < L) (most : (i : ℕ) → i < L → G i ≤ none) where
+  any-most : (j : ℕ) → j < L → edgeMin L Any G j ≤ none
+  unfolding edgeMin upMin
+  any-most j h = let u = up (leb 1 j) in omega arith
+    where
+      up : (b : Bool) → cond b (prefixMin G (j - 1)) noCost ≤ none
+      up true = omega (arith, prefix-least G 0 (j - 1) (omega arith), most 0 some-level)
+      up false = omega arith
+
+  -- the least at the other levels is the model's
+  any-of : (j x : ℕ) → j < L → ((i : ℕ) → i < L → (i ≡ j → ⊥) → x ≤ G i) → (x ≡ none) ⊎ Beside G L j x → edgeMin L Any G j ≡ x
+  any-of j x h low = ⊎-elim (λ e. off (omega arith) (omega arith)) (λ b. ⊎-elim (λ k. off k (omega (arith, b .is, most (b .at) (b .inside)))) (λ k. on b k) (le-or-lt none x))
+    where
+      other : (i : ℕ) → i < L → Permitted Any i j → x ≤ G i
+      other i k p = low i k (λ e. ⊎-elim (λ q. omega arith) (λ q. omega arith) p)
+
+      off : none ≤ x → x ≤ none → edgeMin L Any G j ≡ x
+      off a b = omega (arith, any-most j h, edge-min-none L (omega arith) Any G j h (λ i k p. omega (arith, other i k p)))
+
+      on : Beside G L j x → x < none → edgeMin L Any G j ≡ x
+      on b k =
+          let p : Permitted Any (b .at) j = ⊎-elim (λ q. inr (omega arith)) (λ q. inl (omega arith)) (apart (b .at) (b .other)) in
+          edge-min-is L (omega arith) Any G j h (b .at) (b .inside) p (omega (arith, b .is)) (λ i c q. omega (arith, b .is, other i c q)) ∙ sym (b .is)
+        where
+          apart : (i : ℕ) → (i ≡ j → ⊥) → (j < i) ⊎ (i < j)
+          apart i n = ⊎-elim (λ q. ⊎-elim (λ u. absurd (n (omega arith))) (λ u. inl u) (le-or-lt i j)) (λ q. inr q) (le-or-lt j i)
+
+  pub any-is : {r : Two} → TwoLeast G L r → (j : ℕ) → j < L → pickN (eqb j (r .level)) (r .second) (r .value) ≡ edgeMin L Any G j
+  any-is {r} t j h = go (eqb j (r .level)) refl
+    where
+      go : (b : Bool) → eqb j (r .level) ≡ b → pickN b (r .second) (r .value) ≡ edgeMin L Any G j
+      go true e =
+          let w : r .level ≡ j = sym (eqb-true j (r .level) e) in
+          sym (any-of j (r .second) h (λ i k n. t .others i k (λ q. n (q ∙ w))) (subst (λ (i : ℕ). (r .second ≡ none) ⊎ Beside G L i (r .second)) w (t .second)))
+      go false e =
+          sym (any-of j (r .value) h (λ i k n. t .least i k) (⊎-elim (λ c. inl (c .0)) (λ c. inr (record { at = r .level; inside = c .0; other = λ q. eqb-false j (r .level) e (sym q); is = c .1 })) (t .is)))
+
+pub any-inside : {L : ℕ} {G : ℕ → ℕ} {r : Two} → 0 < L → TwoLeast G L r → r .level < L
+any-inside h t = ⊎-elim (λ c. omega (arith, c .1)) (λ c. c .0) (t .is)
+
+pub any-moved : {ws w1 : List ℕ} {base L f next work : ℕ} {r : Two} → Into f next work L (length ws) → 0 < L → TwoLeast (costs base (piece ws f L)) L r → Made (constantBut (r .value) (r .level) (r .second)) ws w1 work L → Moved (edgeMin L Any) base L ws w1 f next work
 any-moved {ws} {base = base} {L} {f} {r = r} h p t m = record {
   spared = record { size = m .kept .size; word = λ i x y z. kept-off L (m .kept) i y };
-  curve = λ A B G l c. curve-as (anyMin L G) (λ j k. any-is l c r p t) (curve-flat (one l c) (h .room-work) m);
+  curve = λ A B G l c. curve-as (edgeMin L Any G) (any-is p (curve-most l c) (curve-two c t)) (curve-flats (λ (j : ℕ). pickN (eqb j (r .level)) (r .second) (r .value)) (λ j k. sized l c (eqb j (r .level))) (h .room-work) m);
 }
   where
-    one : {A B : ℕ} {G : ℕ → ℕ} → Limits A B base L → Curve A B base L ws f G → (r .value ≡ none) ⊎ (r .value < B)
-    one l c =
-        let g = curve-least-in c (omega arith) t .some (omega arith) in
-        ⊎-elim (λ e. inl (g .is ∙ e)) (λ e. inr (omega (arith, g .is))) (curve-value l c (r .level) (omega (arith, g .high)))
+    sized : {A B : ℕ} {G : ℕ → ℕ} → Limits A B base L → Curve A B base L ws f G → (b : Bool) → (pickN b (r .second) (r .value) ≡ none) ⊎ (pickN b (r .second) (r .value) < B)
+    sized l c true = ⊎-elim (λ e. inl e) (λ b. ⊎-elim (λ e. inl (b .is ∙ e)) (λ e. inr (omega (arith, b .is))) (curve-value l c (b .at) (b .inside))) (curve-two c t .second)
+    sized l c false = ⊎-elim (λ e. inl (e .0)) (λ e. ⊎-elim (λ q. inl (e .1 ∙ q)) (λ q. inr (omega (arith, e .1))) (curve-value l c (r .level) (e .0))) (curve-two c t .is)
 
 -- ---- the least of two
 pub joined : {ws w1 : List ℕ} {pen base L g acc next : ℕ} → Joint acc next g L (length ws) → Made (λ (j : ℕ). better (base + j) (piece ws acc L j) (raised pen (piece ws g L j))) ws w1 next L → Joined pen base L ws w1 g acc next
@@ -195,9 +227,8 @@ module _ {pen base L f acc next work r : ℕ} {ws w1 : List ℕ} where
   unfolding edgeMin
   stay-edge k e = rw e (taken-as (edgeMin L Stay) (λ G j. refl))
 
-  pub any-edge : (k : Kind) → k ≡ Any → Taken (anyMin L) pen base L ws w1 f acc next work r → Taken (edgeMin L k) pen base L ws w1 f acc next work r
-  unfolding edgeMin
-  any-edge k e = rw e (taken-as (edgeMin L Any) (λ G j. refl))
+  pub any-edge : (k : Kind) → k ≡ Any → Taken (edgeMin L Any) pen base L ws w1 f acc next work r → Taken (edgeMin L k) pen base L ws w1 f acc next work r
+  any-edge k e t = rw e t
 
   pub up-edge : (k : Kind) (g : ℕ) → k ≡ Up g → Taken (upMin g) pen base L ws w1 f acc next work r → Taken (edgeMin L k) pen base L ws w1 f acc next work r
   unfolding edgeMin

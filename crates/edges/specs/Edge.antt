@@ -22,10 +22,6 @@ use Rattle.model.specs.Index.{noCost, prefixMin, suffixMin, upMin, downMin, edg
 use Rattle.model.specs.Held.{raise}
 use Rattle.model.specs.Model.{square, lossAt}
 
--- what an edge of kind any makes of a list
-abbrev pub anyMin : ℕ → (ℕ → ℕ) → ℕ → ℕ
-anyMin L G j = prefixMin G (L - 1)
-
 -- a list that may be taken: its values are none or less than B
 abbrev pub Sound : ℕ → ℕ → ℕ → List ℕ → ℕ → Type 0
 Sound B base L ws o = Curve 1048576 B base L ws o (costs base (piece ws o L))

@@ -1,8 +1,8 @@
 // The lists of a layer over one edge after the other: the least so far, the loss of a reading, and the step back.
 //
 // Contracts speak of costs at level indices: wherever the lists read cost F and G (`Curve`), the list written costs the model's
-// `edgeMin`, `raise` and `min` of these. Stay is the list itself, any the constant least value, up the running minimum shifted, down the
-// same in the mirror, abs both.
+// `edgeMin`, `raise` and `min` of these. Stay is the list itself, any a constant with one level aside, up the running minimum shifted, down
+// the same in the mirror, abs both.
 //
 // Three temporary lists are handed on: acc is the least so far, the next one goes to next, and work is one to work in. They are three
 // numbers, and the place of the new least so far is one: a struct as a result would go through memory.
@@ -11,26 +11,27 @@
 use curve::Low;
 use plan::Kind;
 ghost use mathlib.Core.Path.{_≡_};
+ghost use mathlib.Core.Logic.{_⊎_};
 ghost use Prim.Native.Nat.{ℕ, _+_, _*_, _-_, _≤_, _<_};
 ghost use lib.Dec.{ltb};
 ghost use lib.ListN.{length};
+ghost use Rattle.plan.specs.declared.Kind.the-variants.{Any};
 ghost use Rattle.plan.specs.Build.{gapOf};
 ghost use Rattle.model.specs.Index.{upMin, downMin, edgeMin, Permitted};
 ghost use Rattle.curve.specs.Pieces.{piece, Apart};
 ghost use Rattle.curve.specs.Lows.{costs, noLow};
 ghost use Rattle.curve.specs.Curve.{Limits};
 ghost use Rattle.edges.specs.Back.{LeastOf, pickLow};
-ghost use Rattle.edges.specs.Edge.{Into, Joint, Sound, Ready, Moved, Joined, Taken, anyMin, WithLoss};
+ghost use Rattle.edges.specs.Edge.{Into, Joint, Sound, Ready, Moved, Joined, Taken, WithLoss};
 
-// work: the least of f, at every level.
+// work: at each level the least of f at the other levels. That is the least of all, but at a level that has it: there it is the second least.
 fn any_into(ws: &mut [u64], f: usize, next: usize, work: usize, levels: u64, base: u64)
     requires { ⌜ Into f next work levels (length (now ws)) × (0 < levels) ⌝ }
     requires { ⌜ Limits 1048576 18014398509481984 base levels × Sound 18014398509481984 base levels (now ws) f ⌝ }
-    ensures { λ r. ⌜ Moved (anyMin levels) base levels (now (ws .entry)) (now (ws .exit)) f next work ⌝ }
+    ensures { λ r. ⌜ Moved (edgeMin levels Any) base levels (now (ws .entry)) (now (ws .exit)) f next work ⌝ }
 {
-    let low = curve::least_in(ws, f, 0, levels - 1, levels, base);
-    let c = low.value;
-    curve::constant(ws, work, levels, c);
+    let two = curve::two_least(ws, f, levels, base);
+    curve::constant_but(ws, work, levels, two.value, two.level, two.second);
 }
 
 // work: at each level the least of f at the levels at least gap below.
@@ -77,7 +78,7 @@ fn take_any(
     base: u64,
 )
     requires { ⌜ Ready acc next work f pen base levels (now ws) ⌝ }
-    ensures { λ r. ⌜ Taken (anyMin levels) pen base levels (now (ws .entry)) (now (ws .exit)) f acc next work next ⌝ }
+    ensures { λ r. ⌜ Taken (edgeMin levels Any) pen base levels (now (ws .entry)) (now (ws .exit)) f acc next work next ⌝ }
 {
     any_into(ws, f, next, work, levels, base);
     take(ws, acc, next, work, pen, levels, base);
@@ -217,6 +218,17 @@ fn least_above(ws: &[u64], f: usize, gap: u64, j: u64, levels: u64, base: u64) -
     curve::least_in(ws, f, j + gap, levels - 1, levels, base)
 }
 
+// The least of f at the levels at least gap from j, with the lowest of them that has it.
+fn least_beside(ws: &[u64], f: usize, gap: u64, j: u64, levels: u64, base: u64) -> Low
+    requires { ⌜ Limits 1048576 18014398509481984 base levels × Sound 18014398509481984 base levels (now ws) f ⌝ }
+    requires { ⌜ (j < levels) × (gap < 1024) ⌝ }
+    ensures { λ r. ⌜ LeastOf (λ (i : ℕ). (i + gap ≤ j) ⊎ (j + gap ≤ i)) levels (costs base (piece (now (ws .entry)) f levels)) r ⌝ }
+{
+    let below = least_below(ws, f, gap, j, levels, base);
+    let above = least_above(ws, f, gap, j, levels, base);
+    lower_of(below, above)
+}
+
 // The least of f at the levels from which an edge of the kind leads to level j, with the lowest of them that has it;
 // none, or more, where there is no cost.
 pub fn least_before(ws: &[u64], f: usize, kind: Kind, j: u64, levels: u64, base: u64) -> Low
@@ -228,14 +240,10 @@ pub fn least_before(ws: &[u64], f: usize, kind: Kind, j: u64, levels: u64, base:
     let gap = plan::gap_of(kind) as u64;
     match number {
         0 => curve::least_in(ws, f, j, j, levels, base),
-        1 => curve::least_in(ws, f, 0, levels - 1, levels, base),
+        1 => least_beside(ws, f, 1, j, levels, base),
         2 => least_below(ws, f, gap, j, levels, base),
         3 => least_above(ws, f, gap, j, levels, base),
-        4 => {
-            let below = least_below(ws, f, gap, j, levels, base);
-            let above = least_above(ws, f, gap, j, levels, base);
-            lower_of(below, above)
-        }
+        4 => least_beside(ws, f, gap, j, levels, base),
         5..=255 => no_low(),
     }
 }

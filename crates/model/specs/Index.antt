@@ -1,16 +1,16 @@
--- What one edge makes of a function of the level, by the level's index above lo. Stay is the function itself, any the least value, up and down
--- the running minimum moved by the gap, abs the lesser of both. What code has to show: its list has at each index the value `edgeMin`, or it
+-- What one edge makes of a function of the level, by the level's index above lo. Stay is the function itself, up and down the running minimum
+-- moved by the gap, abs the lesser of both, and any is abs with the gap 1. What code has to show: its list has at each index the value `edgeMin`, or it
 -- looked at the permitted indices and has `edge-min-is` or `edge-min-none`. `permits-index` and `edge-min` make of it the least over the levels
 -- that the model permits. Assumes nothing.
 use mathlib.Core.Path.{_≡_, refl, sym, _∙_, ap}
 use mathlib.Core.Logic.{_⊎_, inl, inr}
 use mathlib.Core.Option.{Option, none, some, Option·some-injective}
-use mathlib.Core.Bool.{Bool, true, false, _&&_, cond}
+use mathlib.Core.Bool.{Bool, true, false, _&&_, not, cond}
 use Prim.Native.Nat.{ℕ, zero, suc, _+_, _-_, _^_, _≤_, _<_, min}
 use native.Mathlib.Omega.{arith}
 use native.Mathlib.Decide.{decLe, decLt}
 use lib.Dec.{leb, ltb, eqb}
-use borrow.Author.Tests.{ltb-true, leb-true, leb-false, eqb-true, lt-ltb, le-ltb, le-leb, eq-eqb}
+use borrow.Author.Tests.{ltb-true, leb-true, leb-false, eqb-true, lt-ltb, le-ltb, le-leb, lt-leb, eq-eqb, ne-eqb}
 use lib.IntN.{ℤ, pos, natAbs, _+ℤ_, _-ℤ_}
 use lib.Signed.{leZ, leZ-yes}
 use Rattle.integers.specs.Rep as R
@@ -34,7 +34,7 @@ held v = cond (ltb v noCost) (some v) none
 -- from index i to the next index j
 unfoldable pub permitsAt : Kind → ℕ → ℕ → Bool
 permitsAt Stay i j = eqb i j
-permitsAt Any i j = true
+permitsAt Any i j = not (eqb i j)
 permitsAt (Up g) i j = leb (i + g) j
 permitsAt (Down g) i j = leb (j + g) i
 permitsAt (Abs g) i j = cond (leb (i + g) j) true (leb (j + g) i)
@@ -62,7 +62,7 @@ downMin L g f j = cond (ltb (j + g) L) (suffixMin L f (j + g)) noCost
 -- what code computes for each kind
 unfoldable pub edgeMin : ℕ → Kind → (ℕ → ℕ) → ℕ → ℕ
 edgeMin L Stay f j = f j
-edgeMin L Any f j = prefixMin f (L - 1)
+edgeMin L Any f j = min (upMin 1 f j) (downMin L 1 f j)
 edgeMin L (Up g) f j = upMin g f j
 edgeMin L (Down g) f j = downMin L g f j
 edgeMin L (Abs g) f j = min (upMin g f j) (downMin L g f j)
@@ -89,12 +89,15 @@ abs-index lo g i j = go (leb (i + g) j) refl (abs-is z) (x .is)
         let k = leb-false (i + g) j e in
         same-test (leb g (natAbs z)) (leb (j + g) i) (λ l. le-leb (j + g) i (omega (arith, leb-true g (natAbs z) l))) (λ l. le-leb g (natAbs z) (omega (arith, leb-true (j + g) i l)))
 
-pub permits-index : (k : Kind) (lo : ℤ) (i j : ℕ) → permits k (lo +ℤ pos i) (lo +ℤ pos j) ≡ permitsAt k i j
-unfolding permits permitsAt
-permits-index Stay lo i j = rw (le-index lo i j, le-index lo j i) (same-test (leb i j && leb j i) (eqb i j)
+stay-index : (lo : ℤ) (i j : ℕ) → (leZ (lo +ℤ pos i) (lo +ℤ pos j) && leZ (lo +ℤ pos j) (lo +ℤ pos i)) ≡ eqb i j
+stay-index lo i j = rw (le-index lo i j, le-index lo j i) (same-test (leb i j && leb j i) (eqb i j)
     (λ h. let (a, b) = and-yes (leb i j) (leb j i) h in eq-eqb i j (omega (arith, leb-true i j a, leb-true j i b)))
     (λ h. let e = eqb-true i j h in simp (le-leb i j (omega arith), le-leb j i (omega arith))))
-permits-index Any lo i j = refl
+
+pub permits-index : (k : Kind) (lo : ℤ) (i j : ℕ) → permits k (lo +ℤ pos i) (lo +ℤ pos j) ≡ permitsAt k i j
+unfolding permits permitsAt
+permits-index Stay lo i j = stay-index lo i j
+permits-index Any lo i j = ap not (stay-index lo i j)
 permits-index (Up g) lo i j = rw (eqZ (iz lo ⊕ nz i ⊕ nz g) (iz lo ⊕ nz (i + g)) (omega arith)) (le-index lo (i + g) j)
 permits-index (Down g) lo i j = same-test (leZ (lo +ℤ pos j) ((lo +ℤ pos i) -ℤ pos g)) (leb (j + g) i)
     (λ h. le-leb (j + g) i (omega (arith, leN (iz lo ⊕ nz j) (iz lo ⊕ nz i ⊖ nz g) (leZ-yes (holds h)))))
@@ -174,13 +177,6 @@ stay-min L f = record {
   least = λ i j h k a l. let e = eqb-true i j a in rw e (omega arith);
 }
 
-any-min : (L : ℕ) (f : ℕ → ℕ) → 1 ≤ L → MinAt L Any f (λ j. prefixMin f (L - 1))
-unfolding permitsAt
-any-min L f h₀ = record {
-  met = λ j h k. let (i, l, e) = prefix-met f (L - 1) in (i, omega arith, refl, e);
-  least = λ i j h k a l. prefix-least f i (L - 1) (omega arith);
-}
-
 up-min : (L g : ℕ) (f : ℕ → ℕ) → MinAt L (Up g) f (upMin g f)
 unfolding permitsAt upMin
 up-min L g f = record { met = λ j h k. met j h (leb g j) refl k; least = λ i j h k a l. low i j (leb-true (i + g) j a) }
@@ -204,63 +200,87 @@ down-min L g f = record { met = λ j h k. met j h (ltb (j + g) L) refl k; least 
     low i j h k = rw (lt-ltb (j + g) L (omega arith)) (suffix-least L f i (j + g) k h)
 
 -- the lesser of two serves what either serves
-abs-min : (L g : ℕ) (f a b : ℕ → ℕ) → MinAt L (Up g) f a → MinAt L (Down g) f b → MinAt L (Abs g) f (λ j. min (a j) (b j))
+abs-min : (L g : ℕ) (f : ℕ → ℕ) → MinAt L (Abs g) f (λ j. min (upMin g f j) (downMin L g f j))
 unfolding permitsAt
-abs-min L g f a b x y = record { met = λ j h k. met j h k (decLe (a j) (b j)); least = λ i j h k p l. low i j h k l (leb (i + g) j) refl p }
+abs-min L g f = record { met = λ j h k. met j h k (decLe (upMin g f j) (downMin L g f j)); least = λ i j h k p l. low i j h k l (leb (i + g) j) refl p }
   where
-    met : (j : ℕ) → j < L → min (a j) (b j) < noCost → Dec (a j ≤ b j) → (i : ℕ) × (i < L) × (cond (leb (i + g) j) true (leb (j + g) i) ≡ true) × (f i ≡ min (a j) (b j))
-    met j h k (yes q) = let (i, l, p, e) = x .met j h (omega arith) in (i, l, rw p refl, omega arith)
-    met j h k (no q) = let (i, l, p, e) = y .met j h (omega arith) in (i, l, either (leb (i + g) j) (leb (j + g) i) p, omega arith)
+    met : (j : ℕ) → j < L → min (upMin g f j) (downMin L g f j) < noCost → Dec (upMin g f j ≤ downMin L g f j) → (i : ℕ) × (i < L) × (cond (leb (i + g) j) true (leb (j + g) i) ≡ true) × (f i ≡ min (upMin g f j) (downMin L g f j))
+    met j h k (yes q) = let (i, l, p, e) = up-min L g f .met j h (omega arith) in (i, l, rw p refl, omega arith)
+    met j h k (no q) = let (i, l, p, e) = down-min L g f .met j h (omega arith) in (i, l, either (leb (i + g) j) (leb (j + g) i) p, omega arith)
       where
         either : (c d : Bool) → d ≡ true → cond c true d ≡ true
         either true d h = refl
         either false d h = h
 
-    low : (i j : ℕ) → i < L → j < L → f i < noCost → (c : Bool) → leb (i + g) j ≡ c → cond c true (leb (j + g) i) ≡ true → min (a j) (b j) ≤ f i
-    low i j h k l true e p = omega (arith, x .least i j h k e l)
-    low i j h k l false e p = omega (arith, y .least i j h k p l)
+    low : (i j : ℕ) → i < L → j < L → f i < noCost → (c : Bool) → leb (i + g) j ≡ c → cond c true (leb (j + g) i) ≡ true → min (upMin g f j) (downMin L g f j) ≤ f i
+    low i j h k l true e p = omega (arith, up-min L g f .least i j h k e l)
+    low i j h k l false e p = omega (arith, down-min L g f .least i j h k p l)
+
+-- levels differ where their distance is at least 1
+any-abs : (i j : ℕ) → permitsAt Any i j ≡ permitsAt (Abs 1) i j
+unfolding permitsAt
+any-abs i j = go (decLt i j) (decLt j i)
+  where
+    go : Dec (i < j) → Dec (j < i) → not (eqb i j) ≡ cond (leb (i + 1) j) true (leb (j + 1) i)
+    go (yes h) d = rw (ne-eqb i j (λ e. omega arith), le-leb (i + 1) j (omega arith))
+    go (no h) (yes g) = rw (ne-eqb i j (λ e. omega arith), lt-leb (i + 1) j (omega arith), le-leb (j + 1) i (omega arith))
+    go (no h) (no g) = rw (eq-eqb i j (omega arith), lt-leb (i + 1) j (omega arith), lt-leb (j + 1) i (omega arith))
+
+any-min : (L : ℕ) (f : ℕ → ℕ) → MinAt L Any f (λ j. min (upMin 1 f j) (downMin L 1 f j))
+any-min L f = let x = abs-min L 1 f in record {
+  met = λ j h k. let (i, l, p, e) = x .met j h k in (i, l, any-abs i j ∙ p, e);
+  least = λ i j h k p. x .least i j h k (sym (any-abs i j) ∙ p);
+}
 
 pub edge-min : (L : ℕ) (k : Kind) (f : ℕ → ℕ) → 1 ≤ L → MinAt L k f (edgeMin L k f)
 unfolding edgeMin
 edge-min L Stay f h = stay-min L f
-edge-min L Any f h = any-min L f h
+edge-min L Any f h = any-min L f
 edge-min L (Up g) f h = up-min L g f
 edge-min L (Down g) f h = down-min L g f
-edge-min L (Abs g) f h = abs-min L g f (upMin g f) (downMin L g f) (up-min L g f) (down-min L g f)
+edge-min L (Abs g) f h = abs-min L g f
 
 -- ---- for code that looks at a range of levels
 
 abbrev pub Permitted : Kind → ℕ → ℕ → Type 0
 Permitted Stay i j = i ≡ j
-Permitted Any i j = i ≡ i
+Permitted Any i j = (i + 1 ≤ j) ⊎ (j + 1 ≤ i)
 Permitted (Up g) i j = i + g ≤ j
 Permitted (Down g) i j = j + g ≤ i
 Permitted (Abs g) i j = (i + g ≤ j) ⊎ (j + g ≤ i)
 
-pub permitted-yes : (k : Kind) (i j : ℕ) → permitsAt k i j ≡ true → Permitted k i j
+abs-yes : (g i j : ℕ) → permitsAt (Abs g) i j ≡ true → (i + g ≤ j) ⊎ (j + g ≤ i)
 unfolding permitsAt
-permitted-yes Stay i j h = eqb-true i j h
-permitted-yes Any i j h = refl
-permitted-yes (Up g) i j h = leb-true (i + g) j h
-permitted-yes (Down g) i j h = leb-true (j + g) i h
-permitted-yes (Abs g) i j h = go (leb (i + g) j) refl h
+abs-yes g i j h = go (leb (i + g) j) refl h
   where
     go : (b : Bool) → leb (i + g) j ≡ b → cond b true (leb (j + g) i) ≡ true → (i + g ≤ j) ⊎ (j + g ≤ i)
     go true e q = inl (leb-true (i + g) j e)
     go false e q = inr (leb-true (j + g) i q)
 
-pub yes-permitted : (k : Kind) (i j : ℕ) → Permitted k i j → permitsAt k i j ≡ true
+yes-abs : (g i j : ℕ) → (i + g ≤ j) ⊎ (j + g ≤ i) → permitsAt (Abs g) i j ≡ true
 unfolding permitsAt
-yes-permitted Stay i j h = eq-eqb i j h
-yes-permitted Any i j h = refl
-yes-permitted (Up g) i j h = le-leb (i + g) j h
-yes-permitted (Down g) i j h = le-leb (j + g) i h
-yes-permitted (Abs g) i j (inl h) = rw (le-leb (i + g) j h)
-yes-permitted (Abs g) i j (inr h) = go (leb (i + g) j)
+yes-abs g i j (inl h) = rw (le-leb (i + g) j h)
+yes-abs g i j (inr h) = go (leb (i + g) j)
   where
     go : (b : Bool) → cond b true (leb (j + g) i) ≡ true
     go true = refl
     go false = le-leb (j + g) i h
+
+pub permitted-yes : (k : Kind) (i j : ℕ) → permitsAt k i j ≡ true → Permitted k i j
+unfolding permitsAt
+permitted-yes Stay i j h = eqb-true i j h
+permitted-yes Any i j h = abs-yes 1 i j (sym (any-abs i j) ∙ h)
+permitted-yes (Up g) i j h = leb-true (i + g) j h
+permitted-yes (Down g) i j h = leb-true (j + g) i h
+permitted-yes (Abs g) i j h = abs-yes g i j h
+
+pub yes-permitted : (k : Kind) (i j : ℕ) → Permitted k i j → permitsAt k i j ≡ true
+unfolding permitsAt
+yes-permitted Stay i j h = eq-eqb i j h
+yes-permitted Any i j h = any-abs i j ∙ yes-abs 1 i j h
+yes-permitted (Up g) i j h = le-leb (i + g) j h
+yes-permitted (Down g) i j h = le-leb (j + g) i h
+yes-permitted (Abs g) i j h = yes-abs g i j h
 
 module _ (L : ℕ) (some-level : 1 ≤ L) (k : Kind) (f : ℕ → ℕ) (j : ℕ) (hj : j < L) where
   -- a value at a permitted index that none of them is below

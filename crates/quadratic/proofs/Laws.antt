@@ -42,6 +42,26 @@ falls-to a z c m i h =
     let p : 0 < i + 1 = omega arith in
     omega (arith, mul-lt-mul-of-pos-left h p)
 
+-- where it does not fall from v on, it never falls after v; where it falls from v on, it has fallen to v
+pub rises-after : (q : Quad) (v m : ℕ) → AtMost q v (v + 1) → v + 1 ≤ m → AtMost q (v + 1) m
+rises-after q v m h g =
+    let e : v + 1 + (m - (v + 1)) ≡ m = omega arith in
+    subst (λ (n : ℕ). AtMost q (v + 1) n) e (rises-on (q .a) (q .z) (q .c) (v + 1) (m - (v + 1)) (omega arith))
+
+pub falls-before : (q : Quad) (v m : ℕ) → Less q (v + 1) v → m ≤ v → AtMost q v m
+falls-before q v m h g = ⊎-elim same earlier (le-or-lt v m)
+  where
+    same : v ≤ m → AtMost q v m
+    same k = let e : v ≡ m = omega arith in subst (λ (n : ℕ). AtMost q v n) e (omega arith)
+
+    from : (i : ℕ) → Less q (m + i + 1 + 1) (m + i + 1) → AtMost q (m + i + 1) m
+    from i l = omega (arith, falls-to (q .a) (q .z) (q .c) m i (omega arith))
+
+    earlier : m < v → AtMost q v m
+    earlier k =
+        let e : m + (v - suc m) + 1 ≡ v = omega arith in
+        subst (λ (n : ℕ). AtMost q n m) e (from (v - suc m) (subst (λ (n : ℕ). Less q (n + 1) n) (sym e) h))
+
 -- ---- two quadratics, w of a z c and l of A Z C: w is at most l at v
 abbrev pub U : ℕ → ℕ → ℕ → ℕ → ℕ → ℕ → ℕ → Type 0
 U a z c A Z C v = a * (v * v) + c + 2 * (Z * v) ≤ A * (v * v) + C + 2 * (z * v)

@@ -2,6 +2,14 @@
 use crate::model::*;
 use crate::piece::NONE;
 
+/// The least value, the index of a level that has it, and the least at the other levels.
+#[derive(Clone, Copy, Default)]
+struct Two {
+    value: i64,
+    at: usize,
+    second: i64,
+}
+
 struct Dense<'a> {
     plan: &'a Plan,
     levels: usize,
@@ -9,7 +17,7 @@ struct Dense<'a> {
     counts: usize,
     prefix: Vec<i64>,
     suffix: Vec<i64>,
-    low: Vec<i64>,
+    low: Vec<Two>,
     need_prefix: Vec<bool>,
     need_suffix: Vec<bool>,
     need_low: Vec<bool>,
@@ -27,7 +35,7 @@ impl<'a> Dense<'a> {
             counts,
             prefix: vec![0; counts * plan.states * levels],
             suffix: vec![0; counts * plan.states * levels],
-            low: vec![0; counts * plan.states],
+            low: vec![Two::default(); counts * plan.states],
             need_prefix: need(|k| matches!(k, Kind::Up(_) | Kind::Abs(_))),
             need_suffix: need(|k| matches!(k, Kind::Down(_) | Kind::Abs(_))),
             need_low: need(|k| k == Kind::Any),
@@ -62,7 +70,7 @@ impl<'a> Dense<'a> {
                 suffix(f, &mut self.suffix[range])
             }
             if self.need_low[s] {
-                self.low[j] = f.iter().copied().fold(NONE, i64::min)
+                self.low[j] = two_least(f)
             }
         }
     }
@@ -90,7 +98,7 @@ impl<'a> Dense<'a> {
         let penalty = e.penalty();
         match e.kind {
             Kind::Stay => lower(out, &cur[range], penalty),
-            Kind::Any => lower_constant(out, self.low[j] + penalty),
+            Kind::Any => lower_others(out, self.low[j], penalty),
             Kind::Up(g) => lower_up(out, &self.prefix[range], g as usize, penalty),
             Kind::Down(g) => lower_down(out, &self.suffix[range], g as usize, penalty),
             Kind::Abs(g) => {
@@ -121,6 +129,25 @@ fn lower(out: &mut [i64], f: &[i64], penalty: i64) {
     for (o, v) in out.iter_mut().zip(f) {
         *o = (*o).min(*v + penalty);
     }
+}
+
+fn least(f: &[i64]) -> i64 {
+    f.iter().copied().fold(NONE, i64::min)
+}
+
+fn two_least(f: &[i64]) -> Two {
+    let value = least(f);
+    let at = f.iter().position(|v| *v == value).expect("a level");
+    let second = least(&f[..at]).min(least(&f[at + 1..]));
+    Two { value, at, second }
+}
+
+/// By the least at the other levels.
+fn lower_others(out: &mut [i64], low: Two, penalty: i64) {
+    let (below, rest) = out.split_at_mut(low.at);
+    lower_constant(below, low.value + penalty);
+    lower_constant(&mut rest[1..], low.value + penalty);
+    rest[0] = rest[0].min(low.second + penalty);
 }
 
 fn lower_constant(out: &mut [i64], c: i64) {
@@ -213,17 +240,20 @@ fn lowest_before(f: &[i64], kind: Kind, x: i64) -> (i64, i64) {
     let top = f.len() as i64 - 1;
     match kind {
         Kind::Stay => (f[x as usize], x),
-        Kind::Any => lowest(f, 0, top),
+        Kind::Any => lowest_beside(f, x, 1),
         Kind::Up(g) => lowest(f, 0, x - g),
         Kind::Down(g) => lowest(f, x + g, top),
-        Kind::Abs(g) => {
-            let (below, above) = (lowest(f, 0, x - g), lowest(f, x + g, top));
-            if above.0 < below.0 {
-                above
-            } else {
-                below
-            }
-        }
+        Kind::Abs(g) => lowest_beside(f, x, g),
+    }
+}
+
+/// The lowest of the least values at the indices at least g from x.
+fn lowest_beside(f: &[i64], x: i64, g: i64) -> (i64, i64) {
+    let (below, above) = (lowest(f, 0, x - g), lowest(f, x + g, f.len() as i64 - 1));
+    if above.0 < below.0 {
+        above
+    } else {
+        below
     }
 }
 

@@ -89,9 +89,10 @@ fn take_edge(ws: &mut [u64], fr: Frame, t: Temps, kind: Kind, f: usize, penalty:
     }
 }
 
+/// The least at the other levels: the least of all, and at a level that has it the second least.
 fn take_any(ws: &mut [u64], fr: Frame, t: Temps, f: usize, penalty: i64) -> Temps {
-    let c = least_in(ws, f, fr.lo, fr.hi, fr.lo).value;
-    write_constant(ws, t.two, c, fr.hi);
+    let two = two_least(ws, f, fr.lo, fr.hi);
+    write_constant_but(ws, t.two, two, fr.lo, fr.hi);
     take(ws, fr, t, t.two, penalty)
 }
 

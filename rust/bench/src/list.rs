@@ -178,6 +178,64 @@ pub fn write_constant(ws: &mut [u64], out: usize, c: i64, hi: i64) {
     put_piece(ws, out, constant(hi, c));
 }
 
+/// out: the least everywhere but at its level, where it is the second least.
+pub fn write_constant_but(ws: &mut [u64], out: usize, two: Two, lo: i64, hi: i64) {
+    let mut at = out;
+    if lo < two.level {
+        at = append(ws, out, at, constant(two.level - 1, two.value));
+    }
+    at = append(ws, out, at, constant(two.level, two.second));
+    if two.level < hi {
+        append(ws, out, at, constant(hi, two.value));
+    }
+}
+
+/// The least value, a level that has it, and the least at the other levels.
+#[derive(Clone, Copy, Debug)]
+pub struct Two {
+    pub value: i64,
+    pub level: i64,
+    pub second: i64,
+}
+
+/// The two least of f, in one pass; NONE where there is no other level.
+pub fn two_least(ws: &[u64], f: usize, lo: i64, hi: i64) -> Two {
+    let mut best = Two {
+        value: NONE,
+        level: lo,
+        second: NONE,
+    };
+    let (mut i, mut a) = (f, lo);
+    while a <= hi {
+        let p = piece(ws, i);
+        best = lower_two(best, p, a);
+        a = p.end + 1;
+        i += P;
+    }
+    best
+}
+
+/// The same with the levels a..=p.end, where p is in force: beside its least are the least of its other values.
+#[inline(always)]
+fn lower_two(best: Two, p: Piece, a: i64) -> Two {
+    let v = p.lowest(a, p.end);
+    let w = p.at(v);
+    if best.value <= w {
+        return Two {
+            second: best.second.min(w),
+            ..best
+        };
+    }
+    let mut second = best.value;
+    if a < v {
+        second = second.min(p.at(v - 1));
+    }
+    if v < p.end {
+        second = second.min(p.at(v + 1));
+    }
+    Two { value: w, level: v, second }
+}
+
 /// A value and the lowest level that has it.
 #[derive(Clone, Copy, Debug)]
 pub struct Low {

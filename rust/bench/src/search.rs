@@ -109,18 +109,21 @@ fn least_before(ws: &[u64], fr: Frame, kind: Kind, f: usize, m: i64) -> Low {
     let (lo, hi) = (fr.lo, fr.hi);
     match kind {
         Kind::Stay => least_in(ws, f, m, m, lo),
-        Kind::Any => least_in(ws, f, lo, hi, lo),
+        Kind::Any => least_beside(ws, fr, f, m, 1),
         Kind::Up(g) => least_in(ws, f, lo, m - g, lo),
         Kind::Down(g) => least_in(ws, f, m + g, hi, lo),
-        Kind::Abs(g) => {
-            let below = least_in(ws, f, lo, m - g, lo);
-            let above = least_in(ws, f, m + g, hi, lo);
-            if above.value < below.value {
-                above
-            } else {
-                below
-            }
-        }
+        Kind::Abs(g) => least_beside(ws, fr, f, m, g),
+    }
+}
+
+/// The least of f over the levels at least g from m.
+fn least_beside(ws: &[u64], fr: Frame, f: usize, m: i64, g: i64) -> Low {
+    let below = least_in(ws, f, fr.lo, m - g, fr.lo);
+    let above = least_in(ws, f, m + g, fr.hi, fr.lo);
+    if above.value < below.value {
+        above
+    } else {
+        below
     }
 }
 

@@ -5,6 +5,7 @@ use crate::failure::sentence;
 use crate::label::{Label, MOST_CHANGES, ONE_DOWN, ONE_UP};
 use crate::locate::{agrees, is_cut, locate, Kind, Place};
 use crate::plan::{edge_of, with_c, with_labels, with_masks, Edge, Plan, KINDS, MAX_READINGS, MAX_RECORD, MAX_WINDOW};
+use crate::rules::permits;
 use shared::fields::{number, signed, Field};
 use yeldaski::Refusal;
 
@@ -293,8 +294,15 @@ fn hopeless(plan: &Plan, label: &Label) -> Option<String> {
     match label.kind() {
         Some(kind) if plan.edges.iter().all(|edge| edge.kind != kind) => Some(format!("no edge has the kind {}", KINDS[usize::from(kind)])),
         None if u16::from(label.c) > room => Some(format!("there is room for {}", counted(usize::from(room), "change"))),
+        _ if label.c > 0 && no_other_level(plan) => Some("the grid has one level, and no change can keep it".to_string()),
         _ => None,
     }
+}
+
+/// Whether there are changes, and all of them need a second level, which the grid does not have.
+fn no_other_level(plan: &Plan) -> bool {
+    let mut changes = plan.edges.iter().filter(|edge| edge.is_change()).peekable();
+    plan.lo == plan.hi && changes.peek().is_some() && changes.all(|edge| !permits(edge, plan.lo, plan.lo))
 }
 
 /// The same for a plan that has no segmentation even without its labels.
@@ -314,7 +322,7 @@ fn no_walk(bare: &[u8], plan: &Plan, none: impl Fn(&[u8]) -> bool) -> (Option<us
         Some((_, _, cause)) => (Some(1), cause.to_string()),
         None => {
             let readings = counted(plan.readings.len(), "reading");
-            let cause = format!("the edges allow no chain of {readings}; is a stay missing, or a gap wider than the grid?");
+            let cause = format!("the edges allow no chain of {readings}; is a stay missing, or the grid too narrow for a change?");
             (None, cause)
         }
     }

@@ -125,11 +125,11 @@ fn found(label: &Label, kinds: &[u8]) -> String {
 }
 
 /// Whether the kind of an edge permits two levels, the earlier one first.
-fn permits(edge: &Edge, from: i16, to: i16) -> bool {
+pub fn permits(edge: &Edge, from: i16, to: i16) -> bool {
     let (rise, gap) = (i32::from(to) - i32::from(from), i32::from(edge.gap));
     match edge.kind {
         0 => rise == 0,
-        1 => true,
+        1 => rise != 0,
         2 => rise >= gap,
         3 => -rise >= gap,
         _ => rise.abs() >= gap,
@@ -147,7 +147,7 @@ fn moved(from: i16, to: i16) -> String {
 fn asked(edge: &Edge) -> String {
     match edge.kind {
         0 => "the same level".to_string(),
-        1 => "any level".to_string(),
+        1 => "another level".to_string(),
         2 => format!("a rise of {} or more", edge.gap),
         3 => format!("a fall of {} or more", edge.gap),
         _ => format!("a rise or fall of {} or more", edge.gap),
@@ -230,7 +230,7 @@ mod tests {
         let good: [&[Short]; 5] = [
             &[(3, 0, 31, 255), (8, 1, 42, 2)],
             &[(3, 0, 0, 255), (8, 1, 6, 2)],
-            &[(1, 0, 79, 255), (2, 0, 79, 5), (3, 0, 76, 6), (4, 0, 79, 6), (5, 2, 0, 7), (6, 1, 79, 8)],
+            &[(1, 0, 79, 255), (2, 0, 78, 5), (3, 0, 75, 6), (4, 0, 78, 6), (5, 2, 0, 7), (6, 1, 79, 8)],
             &[(1, 0, 10, 255), (2, 1, 16, 2), (3, 0, 10, 3), (4, 1, 16, 2), (5, 0, 16, 4), (6, 1, 22, 2)],
             &[(4096, 0, 0, 255), (4097, 1, 79, 2)],
         ];
@@ -240,7 +240,7 @@ mod tests {
     }
 
     /// Each rule broken by as little as possible: a gap by one, a level by one, a state by one.
-    const BROKEN: [(&[Short], &str); 18] = [
+    const BROKEN: [(&[Short], &str); 20] = [
         (&[(3, 3, 31, 255)], "run 1 has state 3, but the plan has 3 states"),
         (&[(3, 0, 80, 255)], "run 1 has level 80, but the grid goes from 0 to 79"),
         (&[(3, 0, -1, 255)], "run 1 has level -1, but the grid goes from 0 to 79"),
@@ -274,6 +274,8 @@ mod tests {
             &[(3, 0, 31, 255), (8, 0, 32, 0)],
             "run 2 rises from 31 to 32, but edge 0 asks for the same level",
         ),
+        (&[(3, 0, 31, 255), (8, 0, 31, 5)], "run 2 stays at 31, but edge 5 asks for another level"),
+        (&[(3, 0, 31, 255), (4, 2, 31, 7)], "run 2 stays at 31, but edge 7 asks for another level"),
         (
             &[(3, 0, 31, 255), (8, 0, 33, 6)],
             "run 2 rises from 31 to 33, but edge 6 asks for a rise or fall of 3 or more",
@@ -283,7 +285,7 @@ mod tests {
             "run 2 falls from 31 to 29, but edge 6 asks for a rise or fall of 3 or more",
         ),
         (
-            &[(3, 0, 31, 255), (5, 2, 31, 7)],
+            &[(3, 0, 31, 255), (5, 2, 30, 7)],
             "run 2 has 2 readings, but state 2 has no stay to itself",
         ),
         (

@@ -381,7 +381,7 @@ fn refusals_of_a_search() {
     refused(
         &[ONE, READINGS].concat(),
         16,
-        "cause: the edges allow no chain of 2 readings; is a stay missing, or a gap wider than the grid?",
+        "cause: the edges allow no chain of 2 readings; is a stay missing, or the grid too narrow for a change?",
         "",
     );
     let states = "field 2, tag 02 (states), at byte 7 (0x7)";

@@ -38,11 +38,13 @@ fn answer(text: &str) -> String {
     rows.strip_prefix(header).expect("the columns").to_string()
 }
 
-/// Plan A of the paper: one state, stay and any.
+/// Plan A of the paper, as a text: one state, stay and any.
+fn text_a(grid: &str, class: u8, labels: &str, readings: &str) -> String {
+    format!("grid {grid}\nstate s start end\nedge s -> s stay\nedge s -> s any class {class}\n{labels}\nreadings {readings}\n")
+}
+
 fn a(grid: &str, class: u8, labels: &str, readings: &str) -> String {
-    answer(&format!(
-        "grid {grid}\nstate s start end\nedge s -> s stay\nedge s -> s any class {class}\n{labels}\nreadings {readings}\n"
-    ))
+    answer(&text_a(grid, class, labels, readings))
 }
 
 /// Plan B of the paper, as a text: up from state 0 to state 1, down back.
@@ -68,10 +70,50 @@ fn examples_of_the_paper() {
     assert_eq!(a("-9 to 0", 4, "", "-3 -4"), "1,2,0,-4,,1\n");
     assert_eq!(a("0 to 9", 0, "", "3 3"), "1,2,0,3,,0\n");
     let swapped = "grid 0 to 9\nstate s start end\nedge s -> s any class 0\nedge s -> s stay\nreadings 3 3\n";
-    assert_eq!(answer(swapped), "1,1,0,3,,0\n2,2,0,3,0,0\n");
+    assert_eq!(answer(swapped), "1,2,0,3,,0\n");
     assert_eq!(b(0), "1,1,0,1,,1\n2,3,1,5,2,1\n4,4,0,1,3,1\n");
     assert_eq!(b(5), "1,1,0,0,,2\n2,3,1,5,2,2\n4,4,0,1,3,2\n");
     assert_eq!(b(7), "1,4,0,3,,16\n");
+}
+
+/// The examples of ticket 4: kind any has to move the level, so that a change that is asked for costs 1, and on one level there is none.
+#[test]
+fn examples_of_kind_any() {
+    let label = "label 1 to 2 changes 1";
+    assert_eq!(a("0 to 9", 0, label, "3 3"), "1,1,0,3,,1\n2,2,0,2,1,1\n");
+    assert_eq!(a("3 to 4", 0, label, "3 3"), "1,1,0,4,,1\n2,2,0,3,1,1\n");
+    let one = text_a("3 to 3", 0, label, "3 3");
+    let alone = one.replace("edge s -> s stay\n", "").replace(label, "");
+    for (text, words) in [
+        (
+            one.clone(),
+            "label 1 (readings 1 to 2, 1 change) cannot hold: the grid has one level, and no change can keep it",
+        ),
+        (
+            alone,
+            "the edges allow no chain of 2 readings; is a stay missing, or the grid too narrow for a change?",
+        ),
+        // A second change, that no level suits either.
+        (
+            one.replace("class 0", "class 0\nedge s -> s up 1 class 0"),
+            "label 1 (readings 1 to 2, 1 change) cannot hold: the grid has one level, and no change can keep it",
+        ),
+        // A stay alone is no change at all.
+        (
+            one.replace("edge s -> s any class 0\n", ""),
+            "label 1 (readings 1 to 2, 1 change) cannot hold; possible there: no change",
+        ),
+    ] {
+        refused_with_16(&text, words);
+    }
+    let level = one.replace("class 0", "class 0\nedge s -> s abs 0 class 0");
+    assert_eq!(answer(&level), "1,1,0,3,,0\n2,2,0,3,2,0\n");
+}
+
+fn refused_with_16(text: &str, words: &str) {
+    let done = run(&["run"], &run(&["make"], text.as_bytes()).out);
+    assert_eq!((done.status, done.out), (1, hex("83 0001 10")), "{text}");
+    assert_eq!(done.err, format!("standard input: {words} (refusal 16)\n"));
 }
 
 /// The examples of ticket 2: labels of several changes, of one up and of one down.
@@ -101,9 +143,7 @@ fn examples_of_labels() {
             "label 1 (readings 1 to 4, one up) cannot hold; possible there: no change, 2 changes",
         ),
     ] {
-        let done = run(&["run"], &run(&["make"], text.as_bytes()).out);
-        assert_eq!((done.status, done.out), (1, hex("83 0001 10")), "{text}");
-        assert_eq!(done.err, format!("standard input: {words} (refusal 16)\n"));
+        refused_with_16(&text, words);
     }
 }
 

@@ -11,6 +11,8 @@ pub enum Profile {
     Small,
     /// Labels of every c, and now and then one above 9.
     Labelled,
+    /// Mostly edges of kind any, where the least cost before a change is often at the level itself.
+    Any,
     Program,
     Damaged,
     Mutated,
@@ -28,6 +30,7 @@ impl Profile {
             Profile::Tiny => "tiny",
             Profile::Small => "small",
             Profile::Labelled => "labelled",
+            Profile::Any => "any",
             Profile::Program => "program",
             Profile::Damaged => "damaged",
             Profile::Mutated => "mutated",
@@ -53,11 +56,13 @@ pub fn profile_of(case: u64) -> Profile {
         return Profile::Long;
     }
     match case % 40 {
-        0..=7 => Profile::Tiny,
+        0..=5 => Profile::Tiny,
+        6..=7 => Profile::Any,
         8..=12 => Profile::Small,
         13..=15 => Profile::Labelled,
         16..=24 => Profile::Damaged,
-        25..=31 => Profile::Mutated,
+        25..=30 => Profile::Mutated,
+        31 => Profile::Any,
         32 => Profile::Program,
         33 | 34 => Profile::Wide,
         35..=37 => Profile::Replies,
@@ -73,6 +78,7 @@ pub fn file(rng: &mut Rng, profile: Profile, case: u64) -> Vec<u8> {
         Profile::Tiny => selftest::tiny_case(rng, RULES, 400_000).file(RULES),
         Profile::Small => small(rng).file(RULES),
         Profile::Labelled => labelled_file(rng),
+        Profile::Any => moving(rng).file(RULES),
         Profile::Program if rng.one_in(5) => special(rng).file(RULES),
         Profile::Program => gen::program_case(rng, RULES).file(RULES),
         Profile::Damaged => gen::damaged_file(rng, RULES, damage),
@@ -168,6 +174,69 @@ fn labelled(rng: &mut Rng) -> Case {
         plan: whole,
         record: Record::plain(&readings),
     }
+}
+
+/// Mostly edges of kind any, most of them for nothing, on grids of few levels and often of one or two, with readings that are mostly equal.
+fn moving(rng: &mut Rng) -> Case {
+    let states = rng.range(1, 3);
+    let levels = rng.pick(&[1, 1, 2, 2, 2, 3, 5, 9]);
+    let lo = rng.range(-levels, 2);
+    let (hi, all) = (lo + levels - 1, (1 << states) - 1);
+    let end = rng.range(1, all as i64) as u8;
+    let mut whole = plan::open(RULES, 1, lo as i16, hi as i16, states as u8, all, end).expect("a grid");
+    for edge in moving_edges(rng, states as u8) {
+        plan::add_edge(RULES, &mut whole, &edge).expect("an edge");
+    }
+    let n = rng.range(1, 24);
+    if rng.one_in(2) {
+        add_labels(rng, &mut whole, n);
+    }
+    plan::seal(RULES, &mut whole, false).expect("sealing");
+    let mut level = rng.range(lo, hi);
+    let readings: Vec<i16> = (0..n)
+        .map(|_| {
+            if rng.one_in(6) {
+                level = rng.range(lo - 1, hi + 1);
+            }
+            level as i16
+        })
+        .collect();
+    Case {
+        plan: whole,
+        record: Record::plain(&readings),
+    }
+}
+
+/// Edges between all states in any order: most of kind any, some stays, and now and then others, which may keep the level.
+fn moving_edges(rng: &mut Rng, states: u8) -> Vec<Edge> {
+    let other = u64::from(rng.one_in(3));
+    let mut edges = vec![];
+    for (from, to) in (0..states).flat_map(|from| (0..states).map(move |to| (from, to))) {
+        for (kind, share) in [
+            (plan::ANY, 5),
+            (plan::STAY, 2),
+            (plan::UP, other),
+            (plan::DOWN, other),
+            (plan::ABS, other),
+        ] {
+            if rng.below(6) < share {
+                let class = if rng.one_in(4) { rng.range(1, 4) as u8 } else { 0 };
+                let at = rng.below(edges.len() as u64 + 1) as usize;
+                edges.insert(
+                    at,
+                    Edge {
+                        from,
+                        to,
+                        kind,
+                        gap: 0,
+                        class,
+                    },
+                );
+            }
+        }
+    }
+    edges.truncate(32);
+    edges
 }
 
 /// Labels over n readings, often touching, with any c. Few ask for more changes than they have boundaries, and few last ones reach past the record.

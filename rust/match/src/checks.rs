@@ -4,6 +4,7 @@ use crate::files::{self, Reply};
 use crate::plan::{Label, Plan};
 use crate::proved::{found_bytes, Call, Left, Outcome, Seen};
 use crate::rng::Rng;
+use crate::rules::Rules;
 use crate::search::{self, Record, Run};
 use crate::tally::Tally;
 use crate::{windows, RULES};
@@ -203,9 +204,19 @@ fn write_plan(asker: &mut Asker, rng: &mut Rng, file: &[u8], plan: &Plan, readin
     asker.ask(rng, file, Call::WritePlan { readings, room }, oracle)
 }
 
+/// Whether an answer is another one because kind any has to move the level, as far as that takes little of the oracle's time.
+pub fn moved<T: PartialEq>(plan: &Plan, n: usize, answer: impl Fn(Rules) -> T) -> bool {
+    cases::effort(plan, n) <= 100_000 && answer(Rules { tickets: 3 }) != answer(Rules { tickets: 4 })
+}
+
 fn searched(asker: &mut Asker, rng: &mut Rng, file: &[u8], plan: &Plan, readings: Vec<i16>, words: usize, room: usize) -> Checked {
     let need = need_of(plan);
-    let found = search::search(RULES, plan, &Record::plain(&readings), words as u64, room as u64);
+    let answer = |rules| search::search(rules, plan, &Record::plain(&readings), words as u64, room as u64);
+    let found = answer(RULES);
+    if moved(plan, readings.len(), answer) {
+        asker.tally.moves.searches += 1;
+        asker.tally.moves.refused += u64::from(found.is_err());
+    }
     if found.is_ok() {
         for label in &plan.labels {
             asker.tally.labels.searched[label.code as usize] += 1;
@@ -244,7 +255,9 @@ fn point(asker: &mut Asker, rng: &mut Rng, file: &[u8], plan: &Plan, readings: V
         2 => (hi + 1).min(32_767) as i16,
         _ => rng.range(lo, hi) as i16,
     };
-    let cost = search::point(RULES, plan, &Record::plain(&readings), state as u64, level as i64, words as u64);
+    let answer = |rules| search::point(rules, plan, &Record::plain(&readings), state as u64, level as i64, words as u64);
+    let cost = answer(RULES);
+    asker.tally.moves.points += u64::from(moved(plan, readings.len(), answer));
     if let (Ok(_), Some(label)) = (cost, open_label(plan, readings.len())) {
         asker.tally.labels.open[label.code as usize] += 1;
     }

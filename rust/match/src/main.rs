@@ -57,10 +57,11 @@ use shared::options::{program, wrong, Args, Opt};
 use std::process::ExitCode;
 use std::time::{Duration, Instant};
 
-/// The first three change requests are in force, of which two change answers: the moving window, and the labels that say up, down or several.
-pub const RULES: rules::Rules = rules::Rules { tickets: 3 };
+/// The first four change requests are in force, of which three change answers: the moving window, the labels that say up, down or several, and kind any,
+/// which has to move the level.
+pub const RULES: rules::Rules = rules::Rules { tickets: 4 };
 
-/// A run of so many cases has to meet labels of every c.
+/// A run of so many cases has to meet labels of every c, and answers in which kind any has to move the level.
 const LONG_RUN: u64 = 2_000;
 
 const OPTIONS: [Opt; 3] = [
@@ -77,8 +78,8 @@ struct Options {
 
 fn main() -> ExitCode {
     let about = "Asks the proved library and the oracle the same questions and compares their answers byte for byte.";
-    let end = "\nThe exit status is 0 where all answers are equal, 1 at the first difference or where a long run has not met labels of every c, 2 for wrong \
-               options.\n";
+    let end = "\nThe exit status is 0 where all answers are equal, 1 at the first difference or where a long run has not met labels of every c \
+               and answers in which kind any has to move the level, 2 for wrong options.\n";
     match program("match", about, &OPTIONS, end) {
         Ok(args) => options(&args).map_or_else(|message| wrong("match", &message), run),
         Err(status) => status,
@@ -117,7 +118,7 @@ fn run(options: Options) -> ExitCode {
         }
     }
     println!("{}", asker.tally);
-    let missing = asker.tally.labels.missing();
+    let missing = asker.tally.missing();
     if options.only.is_some() || options.cases < LONG_RUN || missing.is_empty() {
         return ExitCode::SUCCESS;
     }

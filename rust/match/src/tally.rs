@@ -51,9 +51,46 @@ impl fmt::Display for Labels {
     }
 }
 
+/// Answers that were compared and that are others than if kind any could keep the level.
+#[derive(Default)]
+pub struct Moves {
+    pub searches: u64,
+    /// Searches among them without a segmentation.
+    pub refused: u64,
+    pub points: u64,
+    pub windows: u64,
+}
+
+impl Moves {
+    fn named(&self) -> [(&'static str, u64); 4] {
+        [
+            ("searches", self.searches),
+            ("searches without a segmentation", self.refused),
+            ("points", self.points),
+            ("windows", self.windows),
+        ]
+    }
+
+    /// What never occurred.
+    pub fn missing(&self) -> Vec<String> {
+        let missing = self.named().into_iter().filter(|(_, times)| *times == 0);
+        missing
+            .map(|(name, _)| format!("{name} that are others because kind any has to move the level"))
+            .collect()
+    }
+}
+
+impl fmt::Display for Moves {
+    fn fmt(&self, f: &mut fmt::Formatter<'_>) -> fmt::Result {
+        let counts: Vec<String> = self.named().iter().map(|(name, times)| format!("{name} {times}")).collect();
+        writeln!(f, "others because kind any has to move the level: {}", counts.join(", "))
+    }
+}
+
 #[derive(Default)]
 pub struct Tally {
     pub labels: Labels,
+    pub moves: Moves,
     cases: BTreeMap<&'static str, u64>,
     calls: BTreeMap<&'static str, Count>,
 }
@@ -61,6 +98,11 @@ pub struct Tally {
 impl Tally {
     pub fn case(&mut self, profile: &'static str) {
         *self.cases.entry(profile).or_default() += 1;
+    }
+
+    /// What never occurred.
+    pub fn missing(&self) -> Vec<String> {
+        [self.labels.missing(), self.moves.missing()].concat()
     }
 
     /// One comparison more; 0 stands for an answer.
@@ -84,7 +126,7 @@ impl fmt::Display for Tally {
             writeln!(f)?;
             all += count.answered + count.refused.values().sum::<u64>();
         }
-        write!(f, "{}", self.labels)?;
+        write!(f, "{}{}", self.labels, self.moves)?;
         let cases: Vec<String> = self.cases.iter().map(|(name, times)| format!("{name} {times}")).collect();
         write!(
             f,
@@ -112,5 +154,22 @@ mod tests {
         labels.searched[9] = 0;
         labels.refused = 0;
         assert_eq!(labels.missing().len(), 3);
+        let moves = Moves {
+            searches: 2,
+            refused: 1,
+            points: 0,
+            windows: 1,
+        };
+        assert_eq!(moves.missing(), ["points that are others because kind any has to move the level"]);
+        assert_eq!(
+            Tally {
+                labels,
+                moves,
+                ..Tally::default()
+            }
+            .missing()
+            .len(),
+            4
+        );
     }
 }

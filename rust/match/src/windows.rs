@@ -1,6 +1,6 @@
 //! The moving window, asked of both programs.
 use crate::cases::{self, Profile};
-use crate::checks::{need_of, room, Asker, Checked};
+use crate::checks::{moved, need_of, room, Asker, Checked};
 use crate::files;
 use crate::plan::Plan;
 use crate::proved::Call;
@@ -16,7 +16,9 @@ pub fn ask(asker: &mut Asker, rng: &mut Rng, file: &[u8], plan: &Plan, readings:
     let need = need_of(&plan);
     let words = room(rng, need);
     let room = room(rng, (n + 1).saturating_sub(w));
-    let costs = search::window(RULES, &plan, &Record::plain(&record), w as u64, words as u64, room as u64);
+    let answer = |rules| search::window(rules, &plan, &Record::plain(&record), w as u64, words as u64, room as u64);
+    let costs = answer(RULES);
+    asker.tally.moves.windows += u64::from(moved(&plan, n.saturating_mul(w).min(1_000_000), answer));
     let call = Call::Windows {
         record,
         w,

@@ -71,7 +71,35 @@ fn negative_levels() {
 fn lower_edge_first_among_equal_costs() {
     assert_eq!(found(&plan_a(0, 9, 0), &[3, 3]), Ok((0, run(1, 2, 3, 255).to_vec())));
     let swapped = Plan::new(0, 9, 1, 1, 1).edge(0, 0, ANY, 0, 0).edge(0, 0, STAY, 0, 0);
-    assert_eq!(found(&swapped, &[3, 3]), Ok((0, [run(1, 1, 3, 255), run(2, 2, 3, 0)].concat())));
+    assert_eq!(found(&swapped, &[3, 3]), Ok((0, run(1, 2, 3, 255).to_vec())));
+    let twice = Plan::new(0, 9, 1, 1, 1).edge(0, 0, UP, 0, 0).edge(0, 0, STAY, 0, 0);
+    assert_eq!(found(&twice, &[3, 3]), Ok((0, [run(1, 1, 3, 255), run(2, 2, 3, 0)].concat())));
+}
+
+/// Kind any leads to another level, so a change that a label asks for costs 1 where both readings are equal, and one level leaves none.
+#[test]
+fn kind_any_moves_the_level() {
+    let asked = |lo, hi| plan_a(lo, hi, 0).label(1, 2, 1);
+    assert_eq!(found(&asked(0, 9), &[3, 3]), Ok((1, [run(1, 1, 3, 255), run(2, 2, 2, 1)].concat())));
+    assert_eq!(found(&asked(3, 4), &[3, 3]), Ok((1, [run(1, 1, 4, 255), run(2, 2, 3, 1)].concat())));
+    assert_eq!(found(&asked(3, 3), &[3, 3]), Err(16));
+    for (lo, hi, cost) in [(0, 9, Ok(1)), (3, 4, Ok(1)), (3, 3, Err(16))] {
+        let plan = asked(lo, hi);
+        assert_eq!(point(&plan.file(&[0]), &[3, 3], 0, 3, plan.words(), plan.words()), cost, "{lo} to {hi}");
+    }
+}
+
+/// The other changes keep the level where their gap is 0.
+#[test]
+fn other_kinds_may_keep_the_level() {
+    for kind in [UP, DOWN, ABS] {
+        let plan = Plan::new(3, 3, 1, 1, 1).edge(0, 0, STAY, 0, 0).edge(0, 0, kind, 0, 0).label(1, 2, 1);
+        assert_eq!(
+            found(&plan, &[3, 3]),
+            Ok((0, [run(1, 1, 3, 255), run(2, 2, 3, 1)].concat())),
+            "kind {kind}"
+        );
+    }
 }
 
 #[test]

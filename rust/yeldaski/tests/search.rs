@@ -68,9 +68,9 @@ fn point_inside_a_label() {
     // it allows one: cheaper with a change of penalty 1
     let one = plan_a(0, 4, 1).label(1, 4, 1).file(&[0]);
     assert_eq!(point(&one, &[2, 1], 0, 0, WORDS_A, WORDS_A), Ok(2));
-    // and closed at reading 2 it asks for exactly one
+    // and closed at reading 2 it asks for exactly one, from another level
     let closed = plan_a(0, 4, 1).label(1, 2, 1).file(&[0]);
-    assert_eq!(point(&closed, &[1, 1], 0, 1, WORDS_A, WORDS_A), Ok(1));
+    assert_eq!(point(&closed, &[1, 1], 0, 1, WORDS_A, WORDS_A), Ok(1 + 1));
 }
 
 /// Inside an open label of several changes at most so many have happened, though as many cannot be reached any more; a closed one has exactly so many.
@@ -79,7 +79,8 @@ fn point_inside_a_label_of_several_changes() {
     let at_0 = |q: u16, c: u8, readings: &[i16]| point(&plan_a(0, 4, 1).label(1, q, c).file(&[0]), readings, 0, 0, WORDS_A, WORDS_A);
     // With one change 4, 0 and 4 share a level and leave 11 at least, with two 0 and 4 do and leave 8; with three nothing is left.
     let jumps = [Ok(32), Ok(12), Ok(10), Ok(3)];
-    let flat = [Ok(0), Ok(1), Ok(2), Ok(3)];
+    // Each change leads to another level, and the last one to 0: with one or two of them one reading is 1 off, with three two are.
+    let flat = [Ok(0), Ok(1 + 1), Ok(2 + 1), Ok(3 + 2)];
     for c in 0..=7 {
         let most = usize::from(c.min(3));
         assert_eq!(at_0(5, c, &[4, 0, 4, 0]), jumps[most], "{c}");

@@ -1,15 +1,14 @@
 -- `curve::least_in`: the least so far, piece by piece. Assumes nothing.
 use mathlib.Core.Logic.{inl}
-use mathlib.Core.Path.{_≡_, refl, sym, _∙_, ap, subst}
-use Prim.Native.Nat.{ℕ, _+_, _-_, _≤_, _<_}
+use mathlib.Core.Path.{refl, sym, _∙_, ap}
+use Prim.Native.Nat.{ℕ, _+_, _-_, _≤_}
 use native.Mathlib.Omega.{arith}
-use Rattle.quadratic.specs.Fine.{value-most, Bounds, fine-sized}
-use Rattle.quadratic.specs.Quad.{Sized, Fine, value, down, up}
+use Rattle.quadratic.specs.Quad.{value}
 use Rattle.quadratic.specs.declared.Quad.{Quad}
-use Rattle.curve.specs.Lows.{costs, top}
-use Rattle.curve.specs.Pieces.{piece, endOf}
-use Rattle.curve.proofs.Laws.{small, At, Here, here, at-start, at-step}
-use Rattle.curve.proofs.Prefix.{Till, till-none, till-step, till-in}
+use Rattle.curve.specs.Lows.{costs}
+use Rattle.curve.specs.Pieces.{piece}
+use Rattle.curve.proofs.Laws.{At, Here, here, at-start, at-step}
+use Rattle.curve.proofs.Prefix.{fine-on, fine-most, Till, till-none, till-step, till-in}
 use Rattle.curve.proofs.least_in.Statement.{statement}
 use Rattle.curve.proofs.least_in.Tie as tie
 
@@ -27,15 +26,6 @@ loop-holds c = (omega arith, (at-start (c .before .pre .0 .0 .formed), till-none
 
 hf : (c : tie.In-loop Inv-loop μ-loop) → Here (c .before .before .before .args .ws .now) (c .before .before .before .args .f) (c .before .before .before .args .levels) (c .before .loop .i) (c .before .loop .x)
 hf c = here (c .before .loop .inv .1 .0) (omega (arith, c .loop-test, c .before .before .before .pre .1 .0))
-
-fine : (s : tie.Start Inv-loop μ-loop) (j : ℕ) → j < s .args .levels → Fine 1048576 18014398509481984 (piece (s .args .ws .now) (s .args .f) (s .args .levels) j) (s .args .base + j)
-fine s j h = s .pre .1 .1 j h
-
-bounds : (s : tie.Start Inv-loop μ-loop) (j : ℕ) → j < s .args .levels → Bounds 1048576 18014398509481984 (s .args .base + j)
-bounds s j h = record { readings = omega arith; cost = omega arith; place = omega (arith, s .pre .0 .1) }
-
-under-top : (s : tie.Start Inv-loop μ-loop) (j : ℕ) → j < s .args .levels → costs (s .args .base) (piece (s .args .ws .now) (s .args .f) (s .args .levels)) j < top
-under-top s j h = omega (arith, value-most (bounds s j h) (fine s j h))
 
 mul-at : tie.Need-mul-at Inv-loop μ-loop
 mul-at c = omega (arith, hf c .within (c .before .before .before .pre .0 .0 .formed), c .before .before .before .pre .0 .0 .room)
@@ -60,15 +50,8 @@ lesser-requires c κs = tt
 
 lower-requires : tie.Need-lower-requires Inv-loop μ-loop
 lower-requires c κs = let t = c .before .before .before .before in let s = c .before .before .before .before .before .before .before in let l = c .lesser .ensures .0 in let g = c .before .greater .ensures .0 in
-    let e : (j : ℕ) → c .before .before .before .before .before .loop .x ≤ j → j ≤ endOf (s .args .ws .now) (s .args .f) (c .before .before .before .before .before .loop .i) → piece (s .args .ws .now) (s .args .f) (s .args .levels) j ≡ c .before .before .load .result = λ j p q. hf t .is j p q ∙ sym (c .before .before .load .ensures) in (
-      (
-        small (subst Sized (e (c .before .before .before .before .before .loop .x) (omega arith) (hf t .from)) (fine-sized (bounds s (c .before .before .before .before .before .loop .x) (omega (arith, t .loop-test, s .pre .1 .0))) (fine s (c .before .before .before .before .before .loop .x) (omega (arith, t .loop-test, s .pre .1 .0))))),
-        λ v p q. let w : s .args .base + (v - s .args .base) ≡ v = omega arith in
-            subst (λ (n : ℕ). down (c .before .before .load .result) n ≤ up (c .before .before .load .result) n) w
-            (subst (λ (k : Quad). down k (s .args .base + (v - s .args .base)) ≤ up k (s .args .base + (v - s .args .base))) (e (v - s .args .base) (omega (arith, g)) (omega (arith, l))) (fine s (v - s .args .base) (omega (arith, l, s .pre .1 .0)) .whole)),
-      ),
-      omega (arith, l, s .pre .1 .0, s .pre .0 .1),
-    )
+    let w = fine-on (piece (s .args .ws .now) (s .args .f) (s .args .levels)) _ _ _ _ (c .before .before .load .result) (s .pre .0 .1) (s .pre .1 .1) (hf t .from) (hf t .to) (λ j p q. hf t .is j p q ∙ sym (c .before .before .load .ensures)) in
+    ((w .0, λ v p q. w .1 v (omega (arith, g)) (omega (arith, l))), omega (arith, l, s .pre .1 .0, s .pre .0 .1))
 
 add-i : tie.Need-add-i Inv-loop μ-loop
 add-i c = omega (arith, hf (c .before .before .before .before .before) .index, c .before .before .before .before .before .before .before .before .pre .0 .1)
@@ -89,7 +72,7 @@ loop-again c = let t = c .before .before .before .before .before in let s = c .b
 )
 
 returns : tie.Need-returns Inv-loop μ-loop
-returns c = let s = c .before .before .before in till-in _ _ _ _ _ (c .before .loop .inv .1 .1) (omega arith) (λ h. under-top s (s .args .from) (omega (arith, s .pre .1 .0)))
+returns c = let s = c .before .before .before in till-in _ _ _ _ _ (c .before .loop .inv .1 .1) (omega arith) (λ h. omega (arith, fine-most (piece (s .args .ws .now) (s .args .f) (s .args .levels)) _ _ (s .pre .0 .1) (s .pre .1 .1) (s .args .from) (omega (arith, s .pre .1 .0))))
 
 pub least-in-spec : {M : Type 1} → statement M
 least-in-spec =
