@@ -560,7 +560,12 @@ pub fn value_at(ws: &[u64], f: usize, j: u64, levels: u64, base: u64) -> u64
     requires { ⌜ ((i : ℕ) → i < levels → Fine 1048576 18014398509481984 (piece (now ws) f levels i) (base + i)) ⌝ }
     ensures { λ r. ⌜ r ≡ costs base (piece (now (ws .entry)) f levels) j ⌝ }
 {
-    least_in(ws, f, j, j, levels, base).value
+    let mut i: usize = 0;
+    while ws[f + 4 * i] < j {
+        i += 1;
+    }
+    let p = load(ws, f + 4 * i);
+    quadratic::eval(p, base + j)
 }
 
 // Whether f is one piece, none. Since equal neighbours are joined, a list that is none everywhere is; a wrong no would cost time only.

@@ -14,12 +14,12 @@ use Rattle.quadratic.specs.Fine.{pickN, far}
 use Rattle.curve.specs.declared.Two.{Two}
 use Rattle.curve.specs.Pieces.{piece, noneOnly, Kept, Made, shiftOf, mirrorOf, constantBut}
 use Rattle.curve.specs.Lows.{lowest, prefixOf, costs, Beside, TwoLeast}
-use Rattle.curve.specs.Curve.{Curve, Limits, curve-as, curve-prefix, curve-shift, curve-mirror, curve-least, curve-loss, curve-flats, curve-wider, curve-costs, curve-none, curve-most, curve-value, curve-two}
+use Rattle.curve.specs.Curve.{Curve, Limits, curve-as, curve-prefix, curve-shift, curve-mirror, curve-least, curve-loss, curve-flat, curve-flats, curve-wider, curve-costs, curve-none, curve-most, curve-value, curve-two}
 use Rattle.plan.specs.declared.Kind.{Kind}
 use Rattle.plan.specs.declared.Kind.the-variants.{Stay, Any, Up, Down, Abs}
 use Rattle.model.specs.Index.{noCost, prefixMin, suffixMin, upMin, downMin, edgeMin, Permitted, edge-min, edge-min-is, edge-min-none, prefix-least}
 use Rattle.model.specs.Held.{raise}
-use Rattle.edges.specs.Edge.{Into, Joint, Hand, Sound, Ready, Spared, Moved, Joined, Taken, WithLoss, kept-off, spared-refl, spared-then, spared-curve, spared-swap, apart-swap, hand-swap, min-regroup, raise-min, raise-none, less-min, plus-raise, lowest-prefix}
+use Rattle.edges.specs.Edge.{Into, Joint, Hand, Sound, Ready, Spared, Moved, StandsFor, Joined, Taken, WithLoss, kept-off, spared-refl, spared-then, spared-curve, spared-swap, apart-swap, hand-swap, min-regroup, raise-min, raise-none, raise-some, less-min, plus-raise, lowest-prefix}
 
 pub lower-limits : {A B base L : ℕ} (C : ℕ) → C ≤ B → Limits A B base L → Limits A C base L
 lower-limits C h l = record { readings = l .readings; cost = omega (arith, l .cost); low = l .low; high = l .high }
@@ -120,15 +120,39 @@ module _ {L : ℕ} {G : ℕ → ℕ} (some-level : 0 < L) (most : (i : ℕ) → 
 pub any-inside : {L : ℕ} {G : ℕ → ℕ} {r : Two} → 0 < L → TwoLeast G L r → r .level < L
 any-inside h t = ⊎-elim (λ c. omega (arith, c .1)) (λ c. c .0) (t .is)
 
-pub any-moved : {ws w1 : List ℕ} {base L f next work : ℕ} {r : Two} → Into f next work L (length ws) → 0 < L → TwoLeast (costs base (piece ws f L)) L r → Made (constantBut (r .value) (r .level) (r .second)) ws w1 work L → Moved (edgeMin L Any) base L ws w1 f next work
-any-moved {ws} {base = base} {L} {f} {r = r} h p t m = record {
-  spared = record { size = m .kept .size; word = λ i x y z. kept-off L (m .kept) i y };
-  curve = λ A B G l c. curve-as (edgeMin L Any G) (any-is p (curve-most l c) (curve-two c t)) (curve-flats (λ (j : ℕ). pickN (eqb j (r .level)) (r .second) (r .value)) (λ j k. sized l c (eqb j (r .level))) (h .room-work) m);
-}
-  where
-    sized : {A B : ℕ} {G : ℕ → ℕ} → Limits A B base L → Curve A B base L ws f G → (b : Bool) → (pickN b (r .second) (r .value) ≡ none) ⊎ (pickN b (r .second) (r .value) < B)
-    sized l c true = ⊎-elim (λ e. inl e) (λ b. ⊎-elim (λ e. inl (b .is ∙ e)) (λ e. inr (omega (arith, b .is))) (curve-value l c (b .at) (b .inside))) (curve-two c t .second)
-    sized l c false = ⊎-elim (λ e. inl (e .0)) (λ e. ⊎-elim (λ q. inl (e .1 ∙ q)) (λ q. inr (omega (arith, e .1))) (curve-value l c (r .level) (e .0))) (curve-two c t .is)
+-- the list made of the two least
+module _ {ws : List ℕ} {base L f : ℕ} {r : Two} (p : 0 < L) (t : TwoLeast (costs base (piece ws f L)) L r) {A B : ℕ} {G : ℕ → ℕ} (l : Limits A B base L) (c : Curve A B base L ws f G) where
+  least-sized : (r .value ≡ none) ⊎ (r .value < B)
+  least-sized = ⊎-elim (λ e. inl (e .0)) (λ e. ⊎-elim (λ q. inl (e .1 ∙ q)) (λ q. inr (omega (arith, e .1))) (curve-value l c (r .level) (e .0))) (curve-two c t .is)
+
+  least-most : r .value ≤ none
+  least-most = ⊎-elim (λ q. omega arith) (λ q. omega (arith, l .cost)) least-sized
+
+  second-sized : (r .second ≡ none) ⊎ (r .second < B)
+  second-sized = ⊎-elim (λ e. inl e) (λ b. ⊎-elim (λ e. inl (b .is ∙ e)) (λ e. inr (omega (arith, b .is))) (curve-value l c (b .at) (b .inside))) (curve-two c t .second)
+
+  both-sized : (b : Bool) → (pickN b (r .second) (r .value) ≡ none) ⊎ (pickN b (r .second) (r .value) < B)
+  both-sized true = second-sized
+  both-sized false = least-sized
+
+  -- with the second least, it is the model's
+  others-curve : {w1 : List ℕ} {work : ℕ} → work + 4 * L ≤ length ws → Made (constantBut (r .value) (r .level) (r .second)) ws w1 work L → Curve A B base L w1 work (edgeMin L Any G)
+  others-curve h m = curve-as (edgeMin L Any G) (any-is p (curve-most l c) (curve-two c t)) (curve-flats (λ (j : ℕ). pickN (eqb j (r .level)) (r .second) (r .value)) (λ j k. both-sized (eqb j (r .level))) h m)
+
+  -- the second least is no less
+  second-most : r .value ≤ r .second
+  second-most = ⊎-elim (λ e. omega (arith, least-most)) (λ b. omega (arith, b .is, curve-two c t .least (b .at) (b .inside))) (curve-two c t .second)
+
+  -- without it, nothing more is seen where the least so far is x at the level, no dearer than the least
+  least-seen : (pen : ℕ) (F : ℕ → ℕ) → F (r .level) ≤ none → F (r .level) ≤ r .value + pen → (j : ℕ) → j < L → min (F j) (raise (r .value) pen) ≡ min (F j) (raise (edgeMin L Any G j) pen)
+  least-seen pen F m h j k = subst (λ (x : ℕ). min (F j) (raise (r .value) pen) ≡ min (F j) (raise x pen)) (any-is p (curve-most l c) (curve-two c t) j k) (go (eqb j (r .level)) refl)
+    where
+      over : (x : ℕ) → r .value ≤ x → F (r .level) ≤ raise x pen
+      over x g = ⊎-elim (λ q. omega (arith, raise-none x pen q)) (λ q. omega (arith, raise-some x pen q)) (le-or-lt none x)
+
+      go : (b : Bool) → eqb j (r .level) ≡ b → min (F j) (raise (r .value) pen) ≡ min (F j) (raise (pickN b (r .second) (r .value)) pen)
+      go true e = let w : F j ≡ F (r .level) = ap F (eqb-true j (r .level) e) in omega (arith, over (r .value) (omega arith), over (r .second) second-most)
+      go false e = refl
 
 -- ---- the least of two
 pub joined : {ws w1 : List ℕ} {pen base L g acc next : ℕ} → Joint acc next g L (length ws) → Made (λ (j : ℕ). better (base + j) (piece ws acc L j) (raised pen (piece ws g L j))) ws w1 next L → Joined pen base L ws w1 g acc next
@@ -156,24 +180,46 @@ module _ {pen base L f acc next work : ℕ} {ws : List ℕ} (y : Ready acc next 
     curve = λ A B C F G l h ca cf. j .curve A B C F G l h ca cf;
   }
 
-  module _ {E : (ℕ → ℕ) → ℕ → ℕ} {w1 : List ℕ} (m : Moved E base L ws w1 f next work) where
+  -- ---- any: the second least, or nothing, at the level of the least
+  module _ {r : Two} (t : TwoLeast (costs base (piece ws f L)) L r) where
+    pub least-room : r .value ≤ none
+    least-room = least-most (y .some) t (y .limits) ready-from
+
+    pub others-stand : {w1 : List ℕ} → Made (constantBut (r .value) (r .level) (r .second)) ws w1 work L → StandsFor (edgeMin L Any) pen base L ws w1 f acc next work
+    others-stand m = record {
+      spared = record { size = m .kept .size; word = λ i a b c. kept-off L (m .kept) i b };
+      curve = λ A B C F G l h ca cf. (edgeMin L Any G, (others-curve (y .some) t (lower-limits C (omega arith) l) cf (y .hand .into .room-work) m, λ j i. refl));
+    }
+
+    pub least-stands : {w1 : List ℕ} → costs base (piece ws acc L) (r .level) ≤ r .value + pen → Made (λ (j : ℕ). flat (r .value)) ws w1 work L → StandsFor (edgeMin L Any) pen base L ws w1 f acc next work
+    least-stands e m = record {
+      spared = record { size = m .kept .size; word = λ i a b c. kept-off L (m .kept) i b };
+      curve = λ A B C F G l h ca cf. let n = lower-limits C (omega arith) l in let i = any-inside (y .some) t in
+          ((λ (j : ℕ). r .value), (curve-flat (least-sized (y .some) t n cf) (y .hand .into .room-work) m, least-seen (y .some) t n cf pen F (curve-most l ca (r .level) i) (omega (arith, ca .at (r .level) i .is))));
+    }
+
+  -- f by E stands for itself
+  pub moved-stands : {E : (ℕ → ℕ) → ℕ → ℕ} {w1 : List ℕ} → Moved E base L ws w1 f next work → StandsFor E pen base L ws w1 f acc next work
+  moved-stands {E} m = record { spared = m .spared; curve = λ A B C F G l h ca cf. (E G, (m .curve A C G (lower-limits C (omega arith) l) cf, λ j i. refl)) }
+
+  module _ {E : (ℕ → ℕ) → ℕ → ℕ} {w1 : List ℕ} (m : StandsFor E pen base L ws w1 f acc next work) where
     acc-moved : {A B : ℕ} {F : ℕ → ℕ} → Curve A B base L ws acc F → Curve A B base L w1 acc F
     acc-moved c = spared-curve (m .spared) (y .hand .acc-next) (y .hand .acc-work) (y .hand .acc-work) c
 
-    pub moved-joint : Joint acc next work L (length w1)
-    moved-joint = record { acc-next = y .hand .acc-next; g-next = apart-swap next work (4 * L) (y .hand .into .next-work); room-next = omega (arith, y .hand .into .room-next, m .spared .size) }
+    pub stands-joint : Joint acc next work L (length w1)
+    stands-joint = record { acc-next = y .hand .acc-next; g-next = apart-swap next work (4 * L) (y .hand .into .next-work); room-next = omega (arith, y .hand .into .room-next, m .spared .size) }
 
-    pub moved-acc : Sound 18014398509481984 base L w1 acc
-    moved-acc = curve-costs (acc-moved (y .so-far))
+    pub stands-acc : Sound 18014398509481984 base L w1 acc
+    stands-acc = curve-costs (acc-moved (y .so-far))
 
-    pub moved-work : Sound (18014398509481984 - pen) base L w1 work
-    moved-work = curve-costs (m .curve _ _ _ spare (y .from))
+    pub stands-work : Sound (18014398509481984 - pen) base L w1 work
+    stands-work = curve-costs (m .curve _ _ _ _ _ (y .limits) (omega (arith, y .low)) (y .so-far) (y .from) .1 .0)
 
-    pub moved-taken : {w2 : List ℕ} → Joined pen base L w1 w2 work acc next → Taken E pen base L ws w2 f acc next work next
-    moved-taken {w2} j = record {
+    pub stands-taken : {w2 : List ℕ} → Joined pen base L w1 w2 work acc next → Taken E pen base L ws w2 f acc next work next
+    stands-taken {w2} j = record {
       place = inr refl;
       spared = record { size = j .kept .size ∙ m .spared .size; word = λ i a b c. kept-off L (j .kept) i b ∙ m .spared .word i b c c };
-      curve = λ A B C F G l h ca cf. j .curve A B C F (E G) l h (acc-moved ca) (m .curve A C G (lower-limits C (omega arith) l) cf);
+      curve = λ A B C F G l h ca cf. let (H, (ch, e)) = m .curve A B C F G l h ca cf in curve-as (λ (j : ℕ). min (F j) (raise (E G j) pen)) e (j .curve A B C F H l h (acc-moved ca) ch);
     }
 
   -- ---- one after the other

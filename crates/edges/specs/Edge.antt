@@ -77,6 +77,12 @@ pub record Moved (E : (ℕ → ℕ) → ℕ → ℕ) (base L : ℕ) (ws ws′ : 
   pub spared : Spared next work work L ws ws′
   pub curve : (A B : ℕ) (G : ℕ → ℕ) → Limits A B base L → Curve A B base L ws f G → Curve A B base L ws′ work (E G)
 
+-- beside acc, and with pen added, work is as good as f by E; next and work are written
+pub record StandsFor (E : (ℕ → ℕ) → ℕ → ℕ) (pen base L : ℕ) (ws ws′ : List ℕ) (f acc next work : ℕ) : Type 0 where
+  pub spared : Spared next work work L ws ws′
+  pub curve : (A B C : ℕ) (F G : ℕ → ℕ) → Limits A B base L → C + pen ≤ B → Curve A B base L ws acc F → Curve A C base L ws f G
+      → (H : ℕ → ℕ) × (Curve A C base L ws′ work H × ((j : ℕ) → j < L → min (F j) (raise (H j) pen) ≡ min (F j) (raise (E G j) pen)))
+
 -- next is the least of acc and of g with pen added
 pub record Joined (pen base L : ℕ) (ws ws′ : List ℕ) (g acc next : ℕ) : Type 0 where
   pub kept : Kept ws ws′ next (4 * L)
@@ -188,7 +194,7 @@ pub raise-none : (x k : ℕ) → none ≤ x → raise x k ≡ x
 unfolding raise
 raise-none x k h = rw (le-ltb x noCost (omega arith))
 
-raise-some : (x k : ℕ) → x < none → raise x k ≡ x + k
+pub raise-some : (x k : ℕ) → x < none → raise x k ≡ x + k
 unfolding raise
 raise-some x k h = rw (lt-ltb x noCost (omega arith))
 

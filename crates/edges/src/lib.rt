@@ -22,15 +22,29 @@ ghost use Rattle.curve.specs.Pieces.{piece, Apart};
 ghost use Rattle.curve.specs.Lows.{costs, noLow};
 ghost use Rattle.curve.specs.Curve.{Limits};
 ghost use Rattle.edges.specs.Back.{LeastOf, pickLow};
-ghost use Rattle.edges.specs.Edge.{Into, Joint, Sound, Ready, Moved, Joined, Taken, WithLoss};
+ghost use Rattle.edges.specs.Edge.{Into, Joint, Sound, Ready, Moved, StandsFor, Joined, Taken, WithLoss};
 
-// work: at each level the least of f at the other levels. That is the least of all, but at a level that has it: there it is the second least.
-fn any_into(ws: &mut [u64], f: usize, next: usize, work: usize, levels: u64, base: u64)
-    requires { ⌜ Into f next work levels (length (now ws)) × (0 < levels) ⌝ }
-    requires { ⌜ Limits 1048576 18014398509481984 base levels × Sound 18014398509481984 base levels (now ws) f ⌝ }
-    ensures { λ r. ⌜ Moved (edgeMin levels Any) base levels (now (ws .entry)) (now (ws .exit)) f next work ⌝ }
+// work: at each level the least of f at the other levels. That is the least of all, but at a level that has it: there it is the second least,
+// which is left out where the least so far is no dearer than the least itself. So it mostly is, after a stay, and one piece is quicker than three.
+fn any_into(
+    ws: &mut [u64],
+    acc: usize,
+    next: usize,
+    work: usize,
+    f: usize,
+    pen: u64,
+    levels: u64,
+    base: u64,
+)
+    requires { ⌜ Ready acc next work f pen base levels (now ws) ⌝ }
+    ensures { λ r. ⌜ StandsFor (edgeMin levels Any) pen base levels (now (ws .entry)) (now (ws .exit)) f acc next work ⌝ }
 {
     let two = curve::two_least(ws, f, levels, base);
+    let so_far = curve::value_at(ws, acc, two.level, levels, base);
+    if so_far <= two.value + pen {
+        curve::constant(ws, work, levels, two.value);
+        return;
+    }
     curve::constant_but(ws, work, levels, two.value, two.level, two.second);
 }
 
@@ -80,7 +94,7 @@ fn take_any(
     requires { ⌜ Ready acc next work f pen base levels (now ws) ⌝ }
     ensures { λ r. ⌜ Taken (edgeMin levels Any) pen base levels (now (ws .entry)) (now (ws .exit)) f acc next work next ⌝ }
 {
-    any_into(ws, f, next, work, levels, base);
+    any_into(ws, acc, next, work, f, pen, levels, base);
     take(ws, acc, next, work, pen, levels, base);
 }
 

@@ -89,10 +89,14 @@ fn take_edge(ws: &mut [u64], fr: Frame, t: Temps, kind: Kind, f: usize, penalty:
     }
 }
 
-/// The least at the other levels: the least of all, and at a level that has it the second least.
+/// The least at the other levels: the least of all, and at a level that has it the second least, unless the least so far is no dearer there.
 fn take_any(ws: &mut [u64], fr: Frame, t: Temps, f: usize, penalty: i64) -> Temps {
     let two = two_least(ws, f, fr.lo, fr.hi);
-    write_constant_but(ws, t.two, two, fr.lo, fr.hi);
+    if value_at(ws, t.acc, two.level) <= two.value + penalty {
+        write_constant(ws, t.two, two.value, fr.hi);
+    } else {
+        write_constant_but(ws, t.two, two, fr.lo, fr.hi);
+    }
     take(ws, fr, t, t.two, penalty)
 }
 

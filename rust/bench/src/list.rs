@@ -190,6 +190,15 @@ pub fn write_constant_but(ws: &mut [u64], out: usize, two: Two, lo: i64, hi: i64
     }
 }
 
+/// What f costs at the level m.
+pub fn value_at(ws: &[u64], f: usize, m: i64) -> i64 {
+    let mut i = f;
+    while end_at(ws, i) < m {
+        i += P;
+    }
+    piece(ws, i).at(m)
+}
+
 /// The least value, a level that has it, and the least at the other levels.
 #[derive(Clone, Copy, Debug)]
 pub struct Two {

@@ -162,7 +162,7 @@ pub fn point(ws: &mut [u64], plan: &Plan, z: &[i16], s: usize, m: i64) -> Option
     let fr = Frame::of(plan);
     let mut saved = Saved::new();
     let wk = forward(ws, fr, plan, z, &mut saved, 0);
-    let costs = (0..counts_at(plan, z.len())).map(|k| least_in(ws, fr.list(wk.cur, k, s), m, m, fr.lo).value);
+    let costs = (0..counts_at(plan, z.len())).map(|k| value_at(ws, fr.list(wk.cur, k, s), m));
     let least = costs.min().filter(|cost| *cost < NONE);
     ws.fill(0);
     least

@@ -1,6 +1,6 @@
 -- `edges::take_up`: the running minimum, shifted, and the least of it and of what was there. Assumes nothing.
 use borrow.Author.Needs.{needs}
-use Rattle.edges.proofs.Moves.{ready-from, moved-joint, moved-acc, moved-work, moved-taken}
+use Rattle.edges.proofs.Moves.{ready-from, moved-stands, stands-joint, stands-acc, stands-work, stands-taken}
 use Rattle.edges.proofs.take_up.Statement.{statement}
 use Rattle.edges.proofs.take_up.Tie as tie
 
@@ -10,14 +10,14 @@ up-into-requires c κs = let s = c .before .before in ((s .pre .0 .hand .into, s
 take-requires : tie.Need-take-requires
 take-requires c κs =
     let s = c .before .before .before .before .before .before in
-    let m = c .before .before .before .up-into .ensures in
-    ((moved-joint (s .pre .0) m, s .pre .0 .low), (s .pre .0 .limits, (moved-acc (s .pre .0) m, moved-work (s .pre .0) m)))
+    let m = moved-stands (s .pre .0) (c .before .before .before .up-into .ensures) in
+    ((stands-joint (s .pre .0) m, s .pre .0 .low), (s .pre .0 .limits, (stands-acc (s .pre .0) m, stands-work (s .pre .0) m)))
 
 same-length : tie.Need-same-length
 same-length c = search needs
 
 returns : tie.Need-returns
-returns c = let s = c .before .before .before .before .before .before .before .before .before in moved-taken (s .pre .0) (c .before .before .before .before .before .before .up-into .ensures) (c .before .before .take .ensures)
+returns c = let s = c .before .before .before .before .before .before .before .before .before in stands-taken (s .pre .0) (moved-stands (s .pre .0) (c .before .before .before .before .before .before .up-into .ensures)) (c .before .before .take .ensures)
 
 pub take-up-spec : {M : Type 1} → statement M
 take-up-spec = tie.close (tie.spec up-into-requires take-requires same-length returns)
