@@ -15,11 +15,10 @@ use Rattle.integers.specs.Rep.{le-or-lt}
 use Rattle.quadratic.specs.declared.Quad.{Quad}
 use Rattle.quadratic.specs.Quad.{up, down, value, none, flat, Small, Sized, Fine, pick, raised, pushed, moved, mirrored, better}
 use Rattle.quadratic.specs.Fine.{pickN, Bounds, far, plus, square-most, fine-sized, fine-none, fine-flat, fine-wider, fine-raised, value-raised, fine-pushed, value-pushed, fine-moved, value-moved, mirror-sum, mirror-rest, fine-mirrored, value-mirrored, value-better, fine-better, value-most, kinds}
-use Rattle.curve.specs.declared.Low.{Low}
 use Rattle.curve.specs.declared.Two.{Two}
 use Rattle.curve.specs.Pieces.{piece, noneOnly, Formed, Kept, Same, Apart, Made, Held, Lent, Copyable, Copied, shiftOf, mirrorOf, Turnable, Yields}
 use Rattle.curve.specs.Lists.{same-built, kept-same, opened, count-most, closed, copied-built, none-only}
-use Rattle.curve.specs.Lows.{top, costs, Least, LeastIn, Beside, TwoLeast, lowest, prefixOf, lowest-zero, lowest-new, lowest-old, lowest-among, prefix-new, prefix-old}
+use Rattle.curve.specs.Lows.{top, costs, Beside, TwoLeast, lowest, prefixOf, lowest-zero, lowest-new, lowest-old, lowest-among, prefix-new, prefix-old}
 
 -- a piece that costs x at v
 pub record Costs (A B v : ℕ) (q : Quad) (x : ℕ) : Type 0 where
@@ -219,19 +218,6 @@ curve-prefix {A} {B} {base} {L} {ws} {ws′} {f} {dst} {F} l c r m = made-curve 
         }))
         (λ k. rw (prefix-new base (piece ws f L) j k) (record { fine = c .at j h .fine; is = sym (lowest-new G j k) ∙ same j h }))
         (le-or-lt (lowest G j) (G j))
-
--- the least on a range
-pub curve-least-in : {A B base L : ℕ} {ws : List ℕ} {o : ℕ} {F : ℕ → ℕ} {from to : ℕ} {r : Low} → Curve A B base L ws o F → to < L → LeastIn (costs base (piece ws o L)) from to r → LeastIn F from to r
-curve-least-in {base = base} {L} {ws} {o} {F} {from} {to} {r} c h t = record { some = λ g. least (t .some g); empty = t .empty }
-  where
-    least : Least (costs base (piece ws o L)) from to r → Least F from to r
-    least t = record {
-      low = t .low;
-      high = t .high;
-      is = t .is ∙ c .at _ (omega (arith, t .high)) .is;
-      least = λ m u v. omega (arith, t .least m u v, c .at m (omega arith) .is);
-      first = λ m u v. omega (arith, t .first m u v, c .at m (omega (arith, t .high)) .is);
-    }
 
 -- the two least
 pub curve-two : {A B base L : ℕ} {ws : List ℕ} {o : ℕ} {F : ℕ → ℕ} {r : Two} → Curve A B base L ws o F → TwoLeast (costs base (piece ws o L)) L r → TwoLeast F L r

@@ -1,25 +1,26 @@
 -- The lists of an edge, one after the other. Assumes nothing.
-use mathlib.Core.Path.{_≡_, refl, sym, ap, _∙_, subst}
-use mathlib.Core.Logic.{_⊎_, inl, inr, ⊎-elim}
+use mathlib.Core.Path.{_≡_, refl, sym, ap, _∙_}
+use mathlib.Core.Logic.{inl, inr, ⊎-elim}
 use mathlib.Core.Bool.{Bool, true, false, cond}
 use mathlib.Core.List.{List}
 use Prim.Native.Nat.{ℕ, _+_, _*_, _-_, _≤_, _<_, min}
 use native.Mathlib.Omega.{arith}
-use lib.Dec.{leb, ltb, eqb}
+use lib.Dec.{leb, ltb}
 use lib.ListN.{length}
-use borrow.Author.Tests.{le-leb, lt-leb, lt-ltb, le-ltb, eqb-true, eqb-false}
+use borrow.Author.Tests.{le-leb, lt-leb, lt-ltb, le-ltb}
 use Rattle.integers.specs.Rep.{le-or-lt}
 use Rattle.quadratic.specs.Quad.{better, raised, pushed, flat, none}
 use Rattle.quadratic.specs.Fine.{pickN, far}
 use Rattle.curve.specs.declared.Two.{Two}
-use Rattle.curve.specs.Pieces.{piece, noneOnly, Kept, Made, shiftOf, mirrorOf, constantBut}
-use Rattle.curve.specs.Lows.{lowest, prefixOf, costs, Beside, TwoLeast}
-use Rattle.curve.specs.Curve.{Curve, Limits, curve-as, curve-prefix, curve-shift, curve-mirror, curve-least, curve-loss, curve-flat, curve-flats, curve-wider, curve-costs, curve-none, curve-most, curve-value, curve-two}
+use Rattle.curve.specs.Pieces.{piece, noneOnly, Made, shiftOf, mirrorOf, constantBut}
+use Rattle.curve.specs.Lows.{lowest, prefixOf, costs, TwoLeast}
+use Rattle.curve.specs.Curve.{Curve, Limits, curve-as, curve-prefix, curve-shift, curve-mirror, curve-least, curve-loss, curve-flat, curve-wider, curve-costs, curve-none, curve-most, curve-value}
 use Rattle.plan.specs.declared.Kind.{Kind}
 use Rattle.plan.specs.declared.Kind.the-variants.{Stay, Any, Up, Down, Abs}
-use Rattle.model.specs.Index.{noCost, prefixMin, suffixMin, upMin, downMin, edgeMin, Permitted, edge-min, edge-min-is, edge-min-none, prefix-least}
+use Rattle.model.specs.Index.{noCost, prefixMin, suffixMin, upMin, downMin, edgeMin, edge-min, edge-min-none}
 use Rattle.model.specs.Held.{raise}
-use Rattle.edges.specs.Edge.{Into, Joint, Hand, Sound, Ready, Spared, Moved, StandsFor, Joined, Taken, WithLoss, kept-off, spared-refl, spared-then, spared-curve, spared-swap, apart-swap, hand-swap, min-regroup, raise-min, raise-none, raise-some, less-min, plus-raise, lowest-prefix}
+use Rattle.edges.proofs.Others.{any-inside, least-sized, least-most, others-curve, least-seen}
+use Rattle.edges.specs.Edge.{Into, Joint, Sound, Ready, Moved, StandsFor, Joined, Taken, WithLoss, kept-off, spared-refl, spared-then, spared-curve, spared-swap, apart-swap, hand-swap, min-regroup, raise-min, raise-none, less-min, plus-raise, lowest-prefix}
 
 pub lower-limits : {A B base L : ℕ} (C : ℕ) → C ≤ B → Limits A B base L → Limits A C base L
 lower-limits C h l = record { readings = l .readings; cost = omega (arith, l .cost); low = l .low; high = l .high }
@@ -79,81 +80,6 @@ module _ {ws w1 : List ℕ} {base L f next work : ℕ} (h : Into f next work L (
         curve = λ A B G l c. curve-as (downMin L gap G) (down-is l c gap) (curve-mirror l (down3 l c) (omega (arith, h .room-work, m1 .kept .size, m2 .kept .size, m3 .kept .size)) m4);
       }
 
--- ---- any: the least of all, and the second least at a level that has it
-module _ {L : ℕ} {G : ℕ → ℕ} (some-level : 0 < L) (most : (i : ℕ) → i < L → G i ≤ none) where
-  any-most : (j : ℕ) → j < L → edgeMin L Any G j ≤ none
-  unfolding edgeMin upMin
-  any-most j h = let u = up (leb 1 j) in omega arith
-    where
-      up : (b : Bool) → cond b (prefixMin G (j - 1)) noCost ≤ none
-      up true = omega (arith, prefix-least G 0 (j - 1) (omega arith), most 0 some-level)
-      up false = omega arith
-
-  -- the least at the other levels is the model's
-  any-of : (j x : ℕ) → j < L → ((i : ℕ) → i < L → (i ≡ j → ⊥) → x ≤ G i) → (x ≡ none) ⊎ Beside G L j x → edgeMin L Any G j ≡ x
-  any-of j x h low = ⊎-elim (λ e. off (omega arith) (omega arith)) (λ b. ⊎-elim (λ k. off k (omega (arith, b .is, most (b .at) (b .inside)))) (λ k. on b k) (le-or-lt none x))
-    where
-      other : (i : ℕ) → i < L → Permitted Any i j → x ≤ G i
-      other i k p = low i k (λ e. ⊎-elim (λ q. omega arith) (λ q. omega arith) p)
-
-      off : none ≤ x → x ≤ none → edgeMin L Any G j ≡ x
-      off a b = omega (arith, any-most j h, edge-min-none L (omega arith) Any G j h (λ i k p. omega (arith, other i k p)))
-
-      on : Beside G L j x → x < none → edgeMin L Any G j ≡ x
-      on b k =
-          let p : Permitted Any (b .at) j = ⊎-elim (λ q. inr (omega arith)) (λ q. inl (omega arith)) (apart (b .at) (b .other)) in
-          edge-min-is L (omega arith) Any G j h (b .at) (b .inside) p (omega (arith, b .is)) (λ i c q. omega (arith, b .is, other i c q)) ∙ sym (b .is)
-        where
-          apart : (i : ℕ) → (i ≡ j → ⊥) → (j < i) ⊎ (i < j)
-          apart i n = ⊎-elim (λ q. ⊎-elim (λ u. absurd (n (omega arith))) (λ u. inl u) (le-or-lt i j)) (λ q. inr q) (le-or-lt j i)
-
-  pub any-is : {r : Two} → TwoLeast G L r → (j : ℕ) → j < L → pickN (eqb j (r .level)) (r .second) (r .value) ≡ edgeMin L Any G j
-  any-is {r} t j h = go (eqb j (r .level)) refl
-    where
-      go : (b : Bool) → eqb j (r .level) ≡ b → pickN b (r .second) (r .value) ≡ edgeMin L Any G j
-      go true e =
-          let w : r .level ≡ j = sym (eqb-true j (r .level) e) in
-          sym (any-of j (r .second) h (λ i k n. t .others i k (λ q. n (q ∙ w))) (subst (λ (i : ℕ). (r .second ≡ none) ⊎ Beside G L i (r .second)) w (t .second)))
-      go false e =
-          sym (any-of j (r .value) h (λ i k n. t .least i k) (⊎-elim (λ c. inl (c .0)) (λ c. inr (record { at = r .level; inside = c .0; other = λ q. eqb-false j (r .level) e (sym q); is = c .1 })) (t .is)))
-
-pub any-inside : {L : ℕ} {G : ℕ → ℕ} {r : Two} → 0 < L → TwoLeast G L r → r .level < L
-any-inside h t = ⊎-elim (λ c. omega (arith, c .1)) (λ c. c .0) (t .is)
-
--- the list made of the two least
-module _ {ws : List ℕ} {base L f : ℕ} {r : Two} (p : 0 < L) (t : TwoLeast (costs base (piece ws f L)) L r) {A B : ℕ} {G : ℕ → ℕ} (l : Limits A B base L) (c : Curve A B base L ws f G) where
-  least-sized : (r .value ≡ none) ⊎ (r .value < B)
-  least-sized = ⊎-elim (λ e. inl (e .0)) (λ e. ⊎-elim (λ q. inl (e .1 ∙ q)) (λ q. inr (omega (arith, e .1))) (curve-value l c (r .level) (e .0))) (curve-two c t .is)
-
-  least-most : r .value ≤ none
-  least-most = ⊎-elim (λ q. omega arith) (λ q. omega (arith, l .cost)) least-sized
-
-  second-sized : (r .second ≡ none) ⊎ (r .second < B)
-  second-sized = ⊎-elim (λ e. inl e) (λ b. ⊎-elim (λ e. inl (b .is ∙ e)) (λ e. inr (omega (arith, b .is))) (curve-value l c (b .at) (b .inside))) (curve-two c t .second)
-
-  both-sized : (b : Bool) → (pickN b (r .second) (r .value) ≡ none) ⊎ (pickN b (r .second) (r .value) < B)
-  both-sized true = second-sized
-  both-sized false = least-sized
-
-  -- with the second least, it is the model's
-  others-curve : {w1 : List ℕ} {work : ℕ} → work + 4 * L ≤ length ws → Made (constantBut (r .value) (r .level) (r .second)) ws w1 work L → Curve A B base L w1 work (edgeMin L Any G)
-  others-curve h m = curve-as (edgeMin L Any G) (any-is p (curve-most l c) (curve-two c t)) (curve-flats (λ (j : ℕ). pickN (eqb j (r .level)) (r .second) (r .value)) (λ j k. both-sized (eqb j (r .level))) h m)
-
-  -- the second least is no less
-  second-most : r .value ≤ r .second
-  second-most = ⊎-elim (λ e. omega (arith, least-most)) (λ b. omega (arith, b .is, curve-two c t .least (b .at) (b .inside))) (curve-two c t .second)
-
-  -- without it, nothing more is seen where the least so far is x at the level, no dearer than the least
-  least-seen : (pen : ℕ) (F : ℕ → ℕ) → F (r .level) ≤ none → F (r .level) ≤ r .value + pen → (j : ℕ) → j < L → min (F j) (raise (r .value) pen) ≡ min (F j) (raise (edgeMin L Any G j) pen)
-  least-seen pen F m h j k = subst (λ (x : ℕ). min (F j) (raise (r .value) pen) ≡ min (F j) (raise x pen)) (any-is p (curve-most l c) (curve-two c t) j k) (go (eqb j (r .level)) refl)
-    where
-      over : (x : ℕ) → r .value ≤ x → F (r .level) ≤ raise x pen
-      over x g = ⊎-elim (λ q. omega (arith, raise-none x pen q)) (λ q. omega (arith, raise-some x pen q)) (le-or-lt none x)
-
-      go : (b : Bool) → eqb j (r .level) ≡ b → min (F j) (raise (r .value) pen) ≡ min (F j) (raise (pickN b (r .second) (r .value)) pen)
-      go true e = let w : F j ≡ F (r .level) = ap F (eqb-true j (r .level) e) in omega (arith, over (r .value) (omega arith), over (r .second) second-most)
-      go false e = refl
-
 -- ---- the least of two
 pub joined : {ws w1 : List ℕ} {pen base L g acc next : ℕ} → Joint acc next g L (length ws) → Made (λ (j : ℕ). better (base + j) (piece ws acc L j) (raised pen (piece ws g L j))) ws w1 next L → Joined pen base L ws w1 g acc next
 joined {pen = pen} h m = record {
@@ -163,9 +89,6 @@ joined {pen = pen} h m = record {
 
 -- ---- an edge: moved, then joined
 module _ {pen base L f acc next work : ℕ} {ws : List ℕ} (y : Ready acc next work f pen base L ws) where
-  spare : Limits 1048576 (18014398509481984 - pen) base L
-  spare = lower-limits _ (omega arith) (y .limits)
-
   -- the list at f, the penalty aside
   pub ready-from : Sound 18014398509481984 base L ws f
   ready-from = curve-costs (curve-wider 1048576 18014398509481984 (omega arith) (omega arith) (y .from))

@@ -1,5 +1,6 @@
 -- `edges::any_into`: the least alone where nothing more is seen, else with the second least. Assumes nothing.
-use Rattle.edges.proofs.Moves.{ready-from, any-inside, least-room, least-stands, others-stand}
+use Rattle.edges.proofs.Moves.{ready-from, least-room, least-stands, others-stand}
+use Rattle.edges.proofs.Others.{any-inside}
 use Rattle.curve.specs.Curve.{curve-fine}
 use native.Mathlib.Omega.{arith}
 use borrow.Author.Needs.{needs}
