@@ -456,7 +456,7 @@ pub struct Two {
     pub second: u64,
 }
 
-// The less of best and of p at v, where v lies in [x, y].
+// The less of best and of p at v, where v lies in [x, y]; else best.
 fn lesser_at(best: u64, p: Quad, v: u64, x: u64, y: u64) -> u64
     requires { ⌜ Small p × ((u : ℕ) → x ≤ u → u ≤ y → down p u ≤ up p u) ⌝ }
     requires { ⌜ y < 262144 ⌝ }
@@ -471,8 +471,8 @@ fn lesser_at(best: u64, p: Quad, v: u64, x: u64, y: u64) -> u64
     lesser(best, quadratic::eval(p, v))
 }
 
-// best of the levels below a, with those from a to e, at which p is in force. p falls to its least and does not fall after it, so that beside
-// the least are the least of its other values.
+// The two least of the levels up to e: best is of those below a, and from a on p is in force. p falls to its least and does not fall after it, so
+// that its next least value stands beside its least.
 fn lower_two(best: Two, p: Quad, a: u64, e: u64, base: u64) -> Two
     requires { ⌜ Small p × ((v : ℕ) → base + a ≤ v → v ≤ base + e → down p v ≤ up p v) ⌝ }
     requires { ⌜ (a ≤ e) × ((0 < base) × (base + e < 262144)) ⌝ }
@@ -535,8 +535,8 @@ pub fn constant_but(ws: &mut [u64], dst: usize, levels: u64, c: u64, at: u64, d:
     ensures { λ r. ⌜ Made (constantBut c at d) (now (ws .entry)) (now (ws .exit)) dst levels ⌝ }
 {
     let below = constant_to(ws, dst, 0, 0, at, c);
-    let with = constant_to(ws, dst, below, at, at + 1, d);
-    constant_to(ws, dst, with, at + 1, levels, c);
+    let here = constant_to(ws, dst, below, at, at + 1, d);
+    constant_to(ws, dst, here, at + 1, levels, c);
 }
 
 // The words of the list at f put at dst: four for each of the pieces, whose number is returned.

@@ -1,7 +1,7 @@
 // The lists of a layer over one edge after the other: the least so far, the loss of a reading, and the step back.
 //
 // Contracts speak of costs at level indices: wherever the lists read cost F and G (`Curve`), the list written costs the model's
-// `edgeMin`, `raise` and `min` of these. Stay is the list itself, any a constant with one level aside, up the running minimum shifted, down
+// `edgeMin`, `raise` and `min` of these. Stay is the list itself, any a constant but at one level, up the running minimum shifted, down
 // the same in the mirror, abs both.
 //
 // Three temporary lists are handed on: acc is the least so far, the next one goes to next, and work is one to work in. They are three
@@ -24,8 +24,9 @@ ghost use Rattle.curve.specs.Curve.{Limits};
 ghost use Rattle.edges.specs.Back.{LeastOf, pickLow};
 ghost use Rattle.edges.specs.Edge.{Into, Joint, Sound, Ready, Moved, StandsFor, Joined, Taken, WithLoss};
 
-// work: at each level the least of f at the other levels. That is the least of all, but at a level that has it: there it is the second least,
-// which is left out where the least so far is no dearer than the least itself. So it mostly is, after a stay, and one piece is quicker than three.
+// work: at each level the least of f at the other levels. That is the least of all, but at a level that has it: there it is the second least. It
+// is left out where it cannot be seen, the least so far being no dearer there than the least with pen: so it is after a stay, and one piece is
+// quicker than three.
 fn any_into(
     ws: &mut [u64],
     acc: usize,
