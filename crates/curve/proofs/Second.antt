@@ -16,7 +16,7 @@ use Rattle.curve.specs.Lows.{Beside, TwoLeast, LessAt}
 use Rattle.curve.proofs.Prefix.{at-most, at-level}
 
 pub two-none : (G : ℕ → ℕ) → TwoLeast G 0 (record { value = none; level = 0; second = none })
-two-none G = record { least = λ m h. absurd (omega arith); is = inl (refl, refl); others = λ m h. absurd (omega arith); second = inl refl }
+two-none G = record { least = λ m h. absurd (omega arith); first = λ m h. absurd (omega arith); is = inl (refl, refl); others = λ m h. absurd (omega arith); second = inl refl }
 
 -- ---- one piece more: p on [a, e], whose least is w at the place v
 module _ (best : Two) (p : Quad) (a e base v w : ℕ) (whole : (u : ℕ) → base + a ≤ u → u ≤ base + e → down p u ≤ up p u) (l : Lowest p (base + a) (base + e) v) (ew : w ≡ value p v) (G : ℕ → ℕ) (g : (j : ℕ) → a ≤ j → j ≤ e → (G j ≡ value p (base + j)) × (G j ≤ none)) (t : TwoLeast G a best) where
@@ -30,6 +30,7 @@ module _ (best : Two) (p : Quad) (a e base v w : ℕ) (whole : (u : ℕ) → bas
   pub two-kept : (s : ℕ) → best .value ≤ w → (s ≤ best .second) × (s ≤ w) → (s ≡ best .second) ⊎ (s ≡ w) → TwoLeast G (e + 1) (record { value = best .value; level = best .level; second = s })
   two-kept s h k f = record {
     least = λ m y. ⊎-elim (λ x. omega (arith, low m x y)) (λ x. t .least m x) (le-or-lt a m);
+    first = t .first;
     is = ⊎-elim (λ c. inl c) (λ c. inr (omega (arith, c .0, l .low, l .high), c .1)) (t .is);
     others = λ m y n. ⊎-elim (λ x. omega (arith, low m x y)) (λ x. omega (arith, t .others m x n)) (le-or-lt a m);
     second = ⊎-elim old new f;
@@ -48,11 +49,15 @@ module _ (best : Two) (p : Quad) (a e base v w : ℕ) (whole : (u : ℕ) → bas
   pub two-new : (s s′ : ℕ) → 0 < base → w < best .value → LessAt (best .value) p (v - 1) (base + a) (base + e) s → LessAt s p (v + 1) (base + a) (base + e) s′ → TwoLeast G (e + 1) (record { value = w; level = v - base; second = s′ })
   two-new s s′ b h f k = record {
     least = λ m y. ⊎-elim (λ x. low m x y) (λ x. omega (arith, t .least m x)) (le-or-lt a m);
+    first = λ m y. ⊎-elim (λ x. above m x y) (λ x. omega (arith, t .least m x)) (le-or-lt a m);
     is = inr (omega (arith, l .low, l .high), here);
     others = λ m y n. ⊎-elim (λ x. beside m x (omega arith) n) (λ x. omega (arith, t .least m x, f .low, k .low)) (le-or-lt a m);
     second = ⊎-elim (λ q. ⊎-elim (λ r. old (q ∙ r)) (λ r. inr (one (v - 1) (omega (arith, l .low)) (r .0) (q ∙ r .1))) (f .is)) (λ q. inr (one (v + 1) (omega arith) (q .0) (q .1))) (k .is);
   }
     where
+      above : (m : ℕ) → a ≤ m → m < v - base → w < G m
+      above m x y = omega (arith, ew, g m x (omega (arith, l .high)) .0, l .first (base + m) (omega arith) (omega (arith, l .low)), l .high, whole (base + m) (omega arith) (omega (arith, l .high)), whole v (l .low) (l .high))
+
       step : v - 1 + 1 ≡ v
       step = omega (arith, l .low)
 

@@ -223,6 +223,7 @@ curve-prefix {A} {B} {base} {L} {ws} {ws′} {f} {dst} {F} l c r m = made-curve 
 pub curve-two : {A B base L : ℕ} {ws : List ℕ} {o : ℕ} {F : ℕ → ℕ} {r : Two} → Curve A B base L ws o F → TwoLeast (costs base (piece ws o L)) L r → TwoLeast F L r
 curve-two c t = record {
   least = λ m h. omega (arith, t .least m h, c .at m h .is);
+  first = λ m h. ⊎-elim (λ k. absurd (omega (arith, k .1))) (λ k. omega (arith, t .first m h, c .at m (omega (arith, k .0)) .is)) (t .is);
   is = ⊎-elim (λ k. inl k) (λ k. inr (k .0, k .1 ∙ c .at _ (k .0) .is)) (t .is);
   others = λ m h n. omega (arith, t .others m h n, c .at m h .is);
   second = ⊎-elim (λ k. inl k) (λ b. inr (record { at = b .at; inside = b .inside; other = b .other; is = b .is ∙ c .at (b .at) (b .inside) .is })) (t .second);

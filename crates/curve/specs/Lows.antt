@@ -73,18 +73,20 @@ pub record Beside (G : ℕ → ℕ) (L i x : ℕ) : Type 0 where
   pub other : at ≡ i → ⊥
   pub is : x ≡ G at
 
--- r is the least of G at the levels below L, a level that has it, and the least at the other levels; none where there is no level, or no other
+-- r is the least of G at the levels below L, the lowest level that has it, and the least at the other levels; none where there is no level, or no
+-- other
 pub record TwoLeast (G : ℕ → ℕ) (L : ℕ) (r : Two) : Type 0 where
   pub least : (m : ℕ) → m < L → r .value ≤ G m
+  pub first : (m : ℕ) → m < r .level → r .value < G m
   pub is : ((r .value ≡ none) × (r .level ≡ 0)) ⊎ ((r .level < L) × (r .value ≡ G (r .level)))
   pub others : (m : ℕ) → m < L → (m ≡ r .level → ⊥) → r .second ≤ G m
   pub second : (r .second ≡ none) ⊎ Beside G L (r .level) (r .second)
 
--- from the levels below a to those up to e, where p is in force
+-- best is of the levels below a, r of those up to e, and from a on p is in force
 pub record TwoLowered (best : Two) (p : Quad) (a e base : ℕ) (r : Two) : Type 0 where
   pub on : (G : ℕ → ℕ) → ((j : ℕ) → a ≤ j → j ≤ e → (G j ≡ value p (base + j)) × (G j ≤ none)) → TwoLeast G a best → TwoLeast G (e + 1) r
 
--- r is the less of best and of p at v, where v lies in [x, y]
+-- r is the less of best and of p at v, where v lies in [x, y]; else best
 pub record LessAt (best : ℕ) (p : Quad) (v x y r : ℕ) : Type 0 where
   pub low : r ≤ best
   pub there : x ≤ v → v ≤ y → r ≤ value p v

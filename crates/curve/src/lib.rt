@@ -449,7 +449,7 @@ pub fn least_in(ws: &[u64], f: usize, from: u64, to: u64, levels: u64, base: u64
     best
 }
 
-// The least value, a level that has it, and the least at the other levels.
+// The least value, the lowest level that has it, and the least at the other levels.
 pub struct Two {
     pub value: u64,
     pub level: u64,
@@ -497,7 +497,7 @@ fn lower_two(best: Two, p: Quad, a: u64, e: u64, base: u64) -> Two
     }
 }
 
-// The least of f, a level that has it, and the least at the other levels, in one pass; none where there is no other level.
+// The least of f, the lowest level that has it, and the least at the other levels, in one pass; none where there is no other level.
 pub fn two_least(ws: &[u64], f: usize, levels: u64, base: u64) -> Two
     requires { ⌜ Held (now ws) f levels × ((0 < base) × (base + levels ≤ 262144)) ⌝ }
     requires { ⌜ ((j : ℕ) → j < levels → Fine 1048576 18014398509481984 (piece (now ws) f levels j) (base + j)) ⌝ }

@@ -1,4 +1,4 @@
-// Random lists through every operation of `curve` and `edges`, on grids at both ends and around zero: each level is compared with a direct
+// Random lists through the operations of `curve` and `edges`, on grids at both ends and around zero: each level is compared with a direct
 // computation. Nine lists of up to 40 levels stand in the workspace, slot s at word 160 s, and their values behind them, at 1440 + 40 s.
 // Slots 6 to 8 are the temporary lists of an edge; other operations go between slots 0 to 2 and slots 3 to 5.
 mod direct;

@@ -103,7 +103,7 @@ module _ {pen base L f acc next work : ℕ} {ws : List ℕ} (y : Ready acc next 
     curve = λ A B C F G l h ca cf. j .curve A B C F G l h ca cf;
   }
 
-  -- ---- any: the second least, or nothing, at the level of the least
+  -- ---- any: at the level of the least the second least, or the least there too
   module _ {r : Two} (t : TwoLeast (costs base (piece ws f L)) L r) where
     pub least-room : r .value ≤ none
     least-room = least-most (y .some) t (y .limits) ready-from
@@ -177,7 +177,7 @@ module _ {A C base L : ℕ} {ws : List ℕ} {f : ℕ} {G : ℕ → ℕ} (l : Lim
   -- what an edge offers is none, or has room for the penalty
   edge-room : (k : Kind) (j : ℕ) → j < L → edgeMin L k G j < none → edgeMin L k G j + pen ≤ none
   edge-room k j g p =
-      let (i, q, a, e) = edge-min L k G (omega arith) .met j g p in
+      let (i, q, a, e) = edge-min L k G .met j g p in
       ⊎-elim (λ n. absurd (omega arith)) (λ n. omega arith) (curve-value l c i q)
 
   pub abs-is : (gap j : ℕ) → j < L → min (raise (upMin gap G j) pen) (raise (downMin L gap G j) pen) ≡ raise (edgeMin L (Abs gap) G j) pen
@@ -222,7 +222,7 @@ none-taken {pen} {base} {L} {f} {acc} {next} {work} {ws} k e = record {
     left x y a b = let z : raise y pen ≡ y = raise-none y pen b in rw z (omega arith)
 
     offers : {A C : ℕ} {G : ℕ → ℕ} → Limits A C base L → Curve A C base L ws f G → (j : ℕ) → j < L → none ≤ edgeMin L k G j
-    offers {G = G} l c j i = edge-min-none L (omega arith) k G j i (λ x g p. omega (arith, curve-none l c e x g))
+    offers {G = G} l c j i = edge-min-none L k G j i (λ x g p. omega (arith, curve-none l c e x g))
 
 -- ---- the loss of a reading
 pub with-loss : {w u base L f dst : ℕ} {ws ws′ : List ℕ} → 131072 ≤ base → base + L ≤ 196608 → (131072 ≤ u) × (u < 196608) → dst + 4 * L ≤ length ws → Made (λ (j : ℕ). pushed w u (piece ws f L j)) ws ws′ dst L → WithLoss w u base L ws ws′ f dst

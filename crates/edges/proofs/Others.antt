@@ -38,12 +38,12 @@ module _ {L : ℕ} {G : ℕ → ℕ} (some-level : 0 < L) (most : (i : ℕ) → 
       other i k p = low i k (λ e. ⊎-elim (λ q. omega arith) (λ q. omega arith) p)
 
       off : none ≤ x → x ≤ none → edgeMin L Any G j ≡ x
-      off a b = omega (arith, any-most j h, edge-min-none L (omega arith) Any G j h (λ i k p. omega (arith, other i k p)))
+      off a b = omega (arith, any-most j h, edge-min-none L Any G j h (λ i k p. omega (arith, other i k p)))
 
       on : Beside G L j x → x < none → edgeMin L Any G j ≡ x
       on b k =
           let p : Permitted Any (b .at) j = ⊎-elim (λ q. inr (omega arith)) (λ q. inl (omega arith)) (apart (b .at) (b .other)) in
-          edge-min-is L (omega arith) Any G j h (b .at) (b .inside) p (omega (arith, b .is)) (λ i c q. omega (arith, b .is, other i c q)) ∙ sym (b .is)
+          edge-min-is L Any G j h (b .at) (b .inside) p (omega (arith, b .is)) (λ i c q. omega (arith, b .is, other i c q)) ∙ sym (b .is)
         where
           apart : (i : ℕ) → (i ≡ j → ⊥) → (j < i) ⊎ (i < j)
           apart i n = ⊎-elim (λ q. ⊎-elim (λ u. absurd (n (omega arith))) (λ u. inl u) (le-or-lt i j)) (λ q. inr q) (le-or-lt j i)
@@ -84,7 +84,7 @@ module _ {ws : List ℕ} {base L f : ℕ} {r : Two} (p : 0 < L) (t : TwoLeast (c
   second-most : r .value ≤ r .second
   second-most = ⊎-elim (λ e. omega (arith, least-most)) (λ b. omega (arith, b .is, curve-two c t .least (b .at) (b .inside))) (curve-two c t .second)
 
-  -- without it nothing more is seen, where F, the least so far, is no dearer at that level than the least
+  -- without it nothing more is seen, where F, the least so far, is no dearer at that level than the least with pen
   pub least-seen : (pen : ℕ) (F : ℕ → ℕ) → F (r .level) ≤ none → F (r .level) ≤ r .value + pen → (j : ℕ) → j < L → min (F j) (raise (r .value) pen) ≡ min (F j) (raise (edgeMin L Any G j) pen)
   least-seen pen F m h j k = subst (λ (x : ℕ). min (F j) (raise (r .value) pen) ≡ min (F j) (raise x pen)) (any-is p (curve-most l c) (curve-two c t) j k) (go (eqb j (r .level)) refl)
     where

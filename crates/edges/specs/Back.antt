@@ -83,14 +83,14 @@ kind-least k h j {L} {F} {r} e l = subst (λ (x : Kind). LeastOf (λ (i : ℕ). 
 module _ {L : ℕ} (k : Kind) {F : ℕ → ℕ} (j : ℕ) {r : Low} (hj : j < L) (l : LeastOf (λ (i : ℕ). Permitted k i j) L F r) where
   -- there is no cost
   pub offered-none : noCost ≤ r .value → noCost ≤ edgeMin L k F j
-  offered-none h = edge-min-none L (omega arith) k F j hj (λ i g p. omega (arith, l .least i g p))
+  offered-none h = edge-min-none L k F j hj (λ i g p. omega (arith, l .least i g p))
 
   pub offered : r .value < noCost → Offered L k F j r
   offered h = ⊎-elim (λ t. let z = ap (λ (x : Low). x .value) t in absurd (omega arith)) there (l .met)
     where
       there : Met (λ (i : ℕ). Permitted k i j) L F r → Offered L k F j r
       there m =
-          let e = edge-min-is L (omega arith) k F j hj (r .level) (m .inside) (m .holds) (omega (arith, m .is)) (λ i g p. omega (arith, m .is, l .least i g p)) in
+          let e = edge-min-is L k F j hj (r .level) (m .inside) (m .holds) (omega (arith, m .is)) (λ i g p. omega (arith, m .is, l .least i g p)) in
           record { is = e ∙ sym (m .is); inside = m .inside; permitted = m .holds; at = sym e; first = λ i g p q. omega (arith, m .first i g p, m .is) }
 
 -- of a list that costs F

@@ -77,7 +77,7 @@ pub record Moved (E : (ℕ → ℕ) → ℕ → ℕ) (base L : ℕ) (ws ws′ : 
   pub spared : Spared next work work L ws ws′
   pub curve : (A B : ℕ) (G : ℕ → ℕ) → Limits A B base L → Curve A B base L ws f G → Curve A B base L ws′ work (E G)
 
--- beside acc, and with pen added, work is as good as f by E; next and work are written
+-- beside acc, and with pen added, work is as good as f by E; no list but next and work is written
 pub record StandsFor (E : (ℕ → ℕ) → ℕ → ℕ) (pen base L : ℕ) (ws ws′ : List ℕ) (f acc next work : ℕ) : Type 0 where
   pub spared : Spared next work work L ws ws′
   pub curve : (A B C : ℕ) (F G : ℕ → ℕ) → Limits A B base L → C + pen ≤ B → Curve A B base L ws acc F → Curve A C base L ws f G

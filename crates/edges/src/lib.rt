@@ -2,7 +2,7 @@
 //
 // Contracts speak of costs at level indices: wherever the lists read cost F and G (`Curve`), the list written costs the model's
 // `edgeMin`, `raise` and `min` of these. Stay is the list itself, any a constant but at one level, up the running minimum shifted, down
-// the same in the mirror, abs both.
+// the same in the mirror, abs both. `any_into` leaves out what would not be seen in the minimum.
 //
 // Three temporary lists are handed on: acc is the least so far, the next one goes to next, and work is one to work in. They are three
 // numbers, and the place of the new least so far is one: a struct as a result would go through memory.
@@ -25,8 +25,8 @@ ghost use Rattle.edges.specs.Back.{LeastOf, pickLow};
 ghost use Rattle.edges.specs.Edge.{Into, Joint, Sound, Ready, Moved, StandsFor, Joined, Taken, WithLoss};
 
 // work: at each level the least of f at the other levels. That is the least of all, but at a level that has it: there it is the second least. It
-// is left out where it cannot be seen, the least so far being no dearer there than the least with pen: so it is after a stay, and one piece is
-// quicker than three.
+// is left out where it cannot be seen, the least so far being no dearer there than the least with pen. So it is where a stay from f, no dearer
+// than this edge, was taken before; and one piece is quicker than three.
 fn any_into(
     ws: &mut [u64],
     acc: usize,

@@ -122,7 +122,7 @@ none-held v h = rw (le-ltb v noCost h)
 
 -- ---- prefix and suffix minima
 
-pub prefix-met : (f : ℕ → ℕ) (j : ℕ) → (i : ℕ) × (i ≤ j) × (f i ≡ prefixMin f j)
+prefix-met : (f : ℕ → ℕ) (j : ℕ) → (i : ℕ) × (i ≤ j) × (f i ≡ prefixMin f j)
 unfolding prefixMin
 prefix-met f zero = (0, omega arith, refl)
 prefix-met f (suc j) = let (i, h, e) = prefix-met f j in go i h e (decLe (prefixMin f j) (f (suc j)))
@@ -232,13 +232,13 @@ any-min L f = let x = abs-min L 1 f in record {
   least = λ i j h k p. x .least i j h k (sym (any-abs i j) ∙ p);
 }
 
-pub edge-min : (L : ℕ) (k : Kind) (f : ℕ → ℕ) → 1 ≤ L → MinAt L k f (edgeMin L k f)
+pub edge-min : (L : ℕ) (k : Kind) (f : ℕ → ℕ) → MinAt L k f (edgeMin L k f)
 unfolding edgeMin
-edge-min L Stay f h = stay-min L f
-edge-min L Any f h = any-min L f
-edge-min L (Up g) f h = up-min L g f
-edge-min L (Down g) f h = down-min L g f
-edge-min L (Abs g) f h = abs-min L g f
+edge-min L Stay f = stay-min L f
+edge-min L Any f = any-min L f
+edge-min L (Up g) f = up-min L g f
+edge-min L (Down g) f = down-min L g f
+edge-min L (Abs g) f = abs-min L g f
 
 -- ---- for code that looks at a range of levels
 
@@ -282,11 +282,11 @@ yes-permitted (Up g) i j h = le-leb (i + g) j h
 yes-permitted (Down g) i j h = le-leb (j + g) i h
 yes-permitted (Abs g) i j h = yes-abs g i j h
 
-module _ (L : ℕ) (some-level : 1 ≤ L) (k : Kind) (f : ℕ → ℕ) (j : ℕ) (hj : j < L) where
+module _ (L : ℕ) (k : Kind) (f : ℕ → ℕ) (j : ℕ) (hj : j < L) where
   -- a value at a permitted index that none of them is below
   pub edge-min-is : (i : ℕ) → i < L → Permitted k i j → f i < noCost → ((i′ : ℕ) → i′ < L → Permitted k i′ j → f i ≤ f i′) → edgeMin L k f j ≡ f i
   edge-min-is i hi a h low =
-      let x = edge-min L k f some-level in
+      let x = edge-min L k f in
       let p = x .least i j hi hj (yes-permitted k i j a) h in
       let (i′, hi′, a′, e) = x .met j hj (omega arith) in
       omega (arith, low i′ hi′ (permitted-yes k i′ j a′))
@@ -295,5 +295,5 @@ module _ (L : ℕ) (some-level : 1 ≤ L) (k : Kind) (f : ℕ → ℕ) (j : ℕ)
   edge-min-none off = go (decLt (edgeMin L k f j) noCost)
     where
       go : Dec (edgeMin L k f j < noCost) → noCost ≤ edgeMin L k f j
-      go (yes h) = let (i, hi, a, e) = edge-min L k f some-level .met j hj h in absurd (omega (arith, off i hi (permitted-yes k i j a)))
+      go (yes h) = let (i, hi, a, e) = edge-min L k f .met j hj h in absurd (omega (arith, off i hi (permitted-yes k i j a)))
       go (no h) = omega arith

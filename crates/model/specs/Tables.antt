@@ -203,7 +203,7 @@ module _ (P : Plan) (zs : List ℤ) (R : Ready P zs) where
       pub some-level : (i : ℕ) × (i < width P) × Permitted (edgeAt P e .kind) i j × (T (fromCount P (suc t) e k) (edgeAt P e .from) i ≡ edgeLeast P (suc t) T k j e)
       unfolding width
       some-level =
-          let (i, hi, a, w) = edge-min (width P) (edgeAt P e .kind) (T (fromCount P (suc t) e k) (edgeAt P e .from)) (omega arith) .met j hj (meets .1) in
+          let (i, hi, a, w) = edge-min (width P) (edgeAt P e .kind) (T (fromCount P (suc t) e k) (edgeAt P e .from)) .met j hj (meets .1) in
           (i, hi, permitted-yes (edgeAt P e .kind) i j a, w)
 
       -- the edge is the lowest that meets the number, and the level the lowest that has its least: the walk goes on from there

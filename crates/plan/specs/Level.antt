@@ -10,8 +10,9 @@ use Rattle.plan.specs.declared.Kind.the-variants.{Stay, Any, Up, Down, A
 abbrev sameLevel : ℤ → ℤ → Bool
 sameLevel m m′ = leZ m m′ && leZ m′ m
 
--- "From level m to the next level m′: 0 stay, m′ = m; 1 any, [..]; 2 up, m′ ≥ m + gap; 3 down, m′ ≤ m − gap; 4 abs, the distance of m and m′ at
--- least gap." "Kind 1 now requires m' ≠ m. Kinds 2, 3 and 4 with gap 0 still permit equal levels."
+-- The scope paper (01): "From level m to the next level m′: 0 stay, m′ = m; 1 any, [..]; 2 up, m′ ≥ m + gap; 3 down, m′ ≤ m − gap; 4 abs, the
+-- distance of m and m′ at least gap." The change requests (02), ticket 4: "Kind 1 now requires m' ≠ m. Kinds 2, 3 and 4 with gap 0 still permit
+-- equal levels."
 unfoldable pub permits : Kind → ℤ → ℤ → Bool
 permits Stay m m′ = sameLevel m m′
 permits Any m m′ = not (sameLevel m m′)

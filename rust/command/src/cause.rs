@@ -4,12 +4,13 @@ use crate::check::counted;
 use crate::failure::sentence;
 use crate::label::{Label, MOST_CHANGES, ONE_DOWN, ONE_UP};
 use crate::locate::{agrees, is_cut, locate, Kind, Place};
-use crate::plan::{edge_of, with_c, with_labels, with_masks, Edge, Plan, KINDS, MAX_READINGS, MAX_RECORD, MAX_WINDOW};
+use crate::plan::{edge_of, with_c, with_grid, with_labels, with_masks, Edge, Plan, KINDS, MAX_READINGS, MAX_RECORD, MAX_WINDOW};
 use crate::rules::permits;
 use shared::fields::{number, signed, Field};
 use yeldaski::Refusal;
 
 const END: &str = "the end of the file";
+const ONE_LEVEL: &str = "the grid has one level, and every change of this plan needs another";
 const NO_READINGS: &str = "there are no readings, at least 1 is due";
 
 /// The cause of a plan file's refusal, by the reader or by a search; the short sentence of the number where none is found.
@@ -294,7 +295,7 @@ fn hopeless(plan: &Plan, label: &Label) -> Option<String> {
     match label.kind() {
         Some(kind) if plan.edges.iter().all(|edge| edge.kind != kind) => Some(format!("no edge has the kind {}", KINDS[usize::from(kind)])),
         None if u16::from(label.c) > room => Some(format!("there is room for {}", counted(usize::from(room), "change"))),
-        _ if label.c > 0 && no_other_level(plan) => Some("the grid has one level, and no change can keep it".to_string()),
+        _ if label.c > 0 && no_other_level(plan) => Some(ONE_LEVEL.to_string()),
         _ => None,
     }
 }
@@ -307,6 +308,16 @@ fn no_other_level(plan: &Plan) -> bool {
 
 /// The same for a plan that has no segmentation even without its labels.
 fn no_walk(bare: &[u8], plan: &Plan, none: impl Fn(&[u8]) -> bool) -> (Option<usize>, String) {
+    // One level more, on whichever side there is one.
+    let wider = if plan.hi < i16::MAX {
+        (plan.lo, plan.hi + 1)
+    } else {
+        (plan.lo - 1, plan.hi)
+    };
+    if no_other_level(plan) && !none(&with_grid(bare, wider.0, wider.1)) {
+        // Field 01, which holds the grid, is the first of a plan file.
+        return (Some(0), ONE_LEVEL.to_string());
+    }
     let all = ((1u16 << plan.states) - 1) as u8;
     let masks = [
         (plan.start, all, "no segmentation ends in a state in which a record may end"),

@@ -135,6 +135,15 @@ pub fn with_c(file: &[u8], number: usize, c: u8) -> Vec<u8> {
     copy
 }
 
+/// The file with another grid.
+pub fn with_grid(file: &[u8], lo: i16, hi: i16) -> Vec<u8> {
+    let mut copy = file.to_vec();
+    if let Some(field) = walk(file).iter().find(|field| field.tag == 1 && field.body.len() == 4) {
+        copy[field.body.clone()].copy_from_slice(&[lo.to_be_bytes(), hi.to_be_bytes()].concat());
+    }
+    copy
+}
+
 /// The file with other start and end sets.
 pub fn with_masks(file: &[u8], start: u8, end: u8) -> Vec<u8> {
     let mut copy = file.to_vec();

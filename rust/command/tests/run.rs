@@ -87,16 +87,29 @@ fn examples_of_kind_any() {
     for (text, words) in [
         (
             one.clone(),
-            "label 1 (readings 1 to 2, 1 change) cannot hold: the grid has one level, and no change can keep it",
+            "label 1 (readings 1 to 2, 1 change) cannot hold: the grid has one level, and every change of this plan needs another",
+        ),
+        (alone.clone(), "the grid has one level, and every change of this plan needs another"),
+        (
+            alone.replace("any class 0", "up 2 class 0"),
+            "the edges allow no chain of 2 readings; is a stay missing, or the grid too narrow for a change?",
         ),
         (
-            alone,
-            "the edges allow no chain of 2 readings; is a stay missing, or the grid too narrow for a change?",
+            "grid 32767 to 32767\nstate new start\nstate worn end\nedge new -> new stay\nedge worn -> worn stay\nedge new -> worn any penalty 5\n\
+             readings 3 3 3\n"
+                .to_string(),
+            "the grid has one level, and every change of this plan needs another",
+        ),
+        (
+            "grid 3 to 3\nstate new start\nstate worn end\nedge new -> new stay\nedge worn -> worn stay\nedge worn -> new any penalty 5\n\
+             readings 3 3 3\n"
+                .to_string(),
+            "no segmentation ends in a state in which a record may end",
         ),
         // A second change, that no level suits either.
         (
             one.replace("class 0", "class 0\nedge s -> s up 1 class 0"),
-            "label 1 (readings 1 to 2, 1 change) cannot hold: the grid has one level, and no change can keep it",
+            "label 1 (readings 1 to 2, 1 change) cannot hold: the grid has one level, and every change of this plan needs another",
         ),
         // A stay alone is no change at all.
         (

@@ -204,7 +204,7 @@ fn write_plan(asker: &mut Asker, rng: &mut Rng, file: &[u8], plan: &Plan, readin
     asker.ask(rng, file, Call::WritePlan { readings, room }, oracle)
 }
 
-/// Whether an answer is another one because kind any has to move the level, as far as that takes little of the oracle's time.
+/// Whether an answer is another than before ticket 4, by which kind any moves the level, as far as that takes little of the oracle's time.
 pub fn moved<T: PartialEq>(plan: &Plan, n: usize, answer: impl Fn(Rules) -> T) -> bool {
     cases::effort(plan, n) <= 100_000 && answer(Rules { tickets: 3 }) != answer(Rules { tickets: 4 })
 }

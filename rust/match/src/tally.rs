@@ -51,7 +51,7 @@ impl fmt::Display for Labels {
     }
 }
 
-/// Answers that were compared and that are others than if kind any could keep the level.
+/// Answers that were compared and that the rule before ticket 4, by which kind any could keep the level, would not give.
 #[derive(Default)]
 pub struct Moves {
     pub searches: u64,
@@ -75,7 +75,7 @@ impl Moves {
     pub fn missing(&self) -> Vec<String> {
         let missing = self.named().into_iter().filter(|(_, times)| *times == 0);
         missing
-            .map(|(name, _)| format!("{name} that are others because kind any has to move the level"))
+            .map(|(name, _)| format!("{name} with another answer than before ticket 4"))
             .collect()
     }
 }
@@ -83,7 +83,11 @@ impl Moves {
 impl fmt::Display for Moves {
     fn fmt(&self, f: &mut fmt::Formatter<'_>) -> fmt::Result {
         let counts: Vec<String> = self.named().iter().map(|(name, times)| format!("{name} {times}")).collect();
-        writeln!(f, "others because kind any has to move the level: {}", counts.join(", "))
+        writeln!(
+            f,
+            "with another answer than before ticket 4 (kind any moves the level): {}",
+            counts.join(", ")
+        )
     }
 }
 
@@ -160,7 +164,7 @@ mod tests {
             points: 0,
             windows: 1,
         };
-        assert_eq!(moves.missing(), ["points that are others because kind any has to move the level"]);
+        assert_eq!(moves.missing(), ["points with another answer than before ticket 4"]);
         assert_eq!(
             Tally {
                 labels,
