@@ -15,14 +15,14 @@ use Rattle.model.specs.Labels.{labelOn, counts, usedAt, used-most}
 use Rattle.model.specs.Least.{Upto}
 use Rattle.model.specs.Index.{noCost}
 use Rattle.model.specs.Held.{Table, minBelow, min-none, penaltyMost}
-use Rattle.model.specs.Ends.{tableAt, endAt}
+use Rattle.model.specs.Ends.{endAt}
 use Rattle.curve.specs.declared.Low.{Low}
 use Rattle.curve.specs.Pieces.{piece}
 use Rattle.curve.specs.Lows.{costs, Least, LeastIn}
 use Rattle.curve.specs.Curve.{Curve, Limits, curve-costs, curve-wider, curve-most}
 use Rattle.edges.specs.Edge.{Sound}
 use Rattle.layer.specs.declared.Shape.{Shape}
-use Rattle.layer.specs.Layer.{stepMost, baseOf, placeMost, listAt, Shape-small, ShapeOf, Layer}
+use Rattle.layer.specs.Layer.{stepMost, baseOf, placeMost, listAt, Shape-small, ShapeOf, LayerOf}
 use Rattle.layer.specs.Next.{Task}
 use Rattle.layer.proofs.Next.{to-shape, limits, shape-small, some-levels, list-is}
 use Rattle.back.specs.declared.End.{End}
@@ -161,13 +161,13 @@ end-none P H = record {
 pub end-all : {P : Plan} {H : Table} {n m : ℕ} {r : End} → n ≡ m → EndTo P H n r → EndTo P H m r
 end-all {P} {H} {n} {m} {r} e a = subst (λ (x : ℕ). EndTo P H x r) e a
 
--- ---- a layer of the search may be read
+-- ---- a layer may be read
 
-module _ {P : Plan} {zs : List ℤ} {g : Shape} (a : Task P zs g) {t cur : ℕ} {ws : List ℕ} (l : Layer P zs t ws cur) where
-  list-here : (k s : ℕ) → k < usedAt P t → s < g .states → Curve t (t * stepMost) (g .base) (g .levels) ws (listAt cur (g .states) (g .levels) k s) (tableAt P zs t k s)
+module _ {P : Plan} {zs : List ℤ} {g : Shape} (a : Task P zs g) {t cur : ℕ} {H : Table} {ws : List ℕ} (l : LayerOf P t H ws cur) where
+  list-here : (k s : ℕ) → k < usedAt P t → s < g .states → Curve t (t * stepMost) (g .base) (g .levels) ws (listAt cur (g .states) (g .levels) k s) (H k s)
   list-here k s hk hs = to-shape (a .shape) (rw (a .shape .states, a .shape .levels) (l .list k s hk (omega (arith, a .shape .states))))
 
-  pub layer-reads : Reads (usedAt P t) cur g ws (tableAt P zs t)
+  pub layer-reads : Reads (usedAt P t) cur g ws H
   layer-reads = record { at = λ k s j hk hs hj. list-here k s hk hs .at j hj .is }
 
   pub layer-readable : cur ≤ placeMost → t ≤ 4096 → Readable (usedAt P t) cur g ws

@@ -10,12 +10,11 @@ use borrow.Author.Tests.{eq-eqb, ne-eqb}
 use Rattle.integers.specs.Pick.{pick}
 use Rattle.plan.specs.declared.Answer.{Answer}
 use Rattle.plan.specs.declared.Answer.the-variants.{Done, Refused}
-use Rattle.model.specs.Result.{Result, found, refused}
+use Rattle.model.specs.Result.{Result, found, refused, Costs, costList, noCosts}
 use Rattle.search.specs.declared.Found.{Found}
 use Rattle.search.specs.declared.Found.the-variants.{Segmentation}
 use Rattle.search.specs.declared.Cost.{Cost}
 use Rattle.search.specs.Search.{searchResult, pointResult, foundOf, costOf, runsAfter, wordsAfter}
-use Rattle.model.specs.Window.{Costs, costList, noCosts}
 use Rattle.windows.specs.declared.Filled.{Filled}
 use Rattle.windows.specs.Windows.{windowResult, filledOf, costsAfter, windowWords}
 use Rattle.readings.specs.Codec.{decodeNumber, decoded}

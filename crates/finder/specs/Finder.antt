@@ -8,8 +8,7 @@ use lib.ListN.{length, drop}
 use Rattle.integers.specs.Pick.{pick}
 use Rattle.plan.specs.declared.Answer.{Answer}
 use Rattle.plan.specs.declared.Answer.the-variants.{Done, Refused}
-use Rattle.model.specs.Result.{Result, found, refused}
-use Rattle.model.specs.Window.{Costs, costList, noCosts}
+use Rattle.model.specs.Result.{Result, found, refused, Costs, costList, noCosts}
 use Rattle.search.specs.Search.{searchResult, pointResult, wordsAfter}
 use Rattle.windows.specs.Windows.{windowResult, windowWords}
 use Rattle.readings.specs.Codec.{readingsOf, decodeNumber, decoded}

@@ -13,15 +13,15 @@ use Rattle.integers.specs.Rep.{le-or-lt}
 use Rattle.plan.specs.declared.Plan.{Plan}
 use Rattle.plan.specs.declared.Label.{Label}
 use Rattle.model.specs.Model.{width}
-use Rattle.model.specs.Labels.{labelOn, counts, usedAt}
-use Rattle.model.specs.Ends.{tableAt}
+use Rattle.model.specs.Labels.{labelOn, counts, usedAt, used-most}
+use Rattle.model.specs.Held.{Table}
 use Rattle.curve.specs.Pieces.{Apart}
 use Rattle.curve.specs.Lists.{count-most}
 use Rattle.curve.specs.Curve.{Curve, curve-same}
 use Rattle.edges.specs.Edge.{Off}
 use Rattle.layer.specs.declared.Shape.{Shape}
-use Rattle.layer.specs.Layer.{stepMost, baseOf, listAt, layerWords, ShapeOf, Layer}
-use Rattle.layer.specs.Next.{Task, Beside, NextReady, NextList, Lists, One, OfCount, Counts, StepReady, Stepped, FirstReady, StartReady}
+use Rattle.layer.specs.Layer.{stepMost, baseOf, listAt, layerWords, ShapeOf, LayerOf, Sources}
+use Rattle.layer.specs.Next.{Task, Beside, NextReady, NextList, Lists, One, OfCount, Counts, Aside, StepReady, Stepped, FirstReady, StartReady}
 use Rattle.layer.proofs.Next.{list-within, used-low}
 
 -- ---- places
@@ -46,30 +46,30 @@ kept-list e f c = curve-same e c (record { word = λ i h g. f i h (omega (arith,
 
 -- ---- lists
 
-module _ (P : Plan) (zs : List ℤ) (t o free : ℕ) where
-  pub no-lists : (Q : ℕ → ℕ → Type 0) → ((k s : ℕ) → Q k s → ⊥) → (ws : List ℕ) → Lists Q P zs t o free ws ws
+module _ (P : Plan) (t : ℕ) (H : Table) (o free : ℕ) where
+  pub no-lists : (Q : ℕ → ℕ → Type 0) → ((k s : ℕ) → Q k s → ⊥) → (ws : List ℕ) → Lists Q P t H o free ws ws
   no-lists Q n ws = record { size = refl; word = λ i f g. refl; list = λ k s q. absurd (n k s q) }
 
-  pub one-list : {k s : ℕ} {ws ws′ : List ℕ} (t′ : ℕ) → t ≡ suc t′ → NextList P zs t′ (listAt o (P .states) (width P) k s) free k s ws ws′ → Lists (One k s) P zs t o free ws ws′
+  pub one-list : {k s : ℕ} {ws ws′ : List ℕ} (t′ : ℕ) → t ≡ suc t′ → NextList P t′ H (listAt o (P .states) (width P) k s) free k s ws ws′ → Lists (One k s) P t H o free ws ws′
   one-list {k} {s} {ws} {ws′} t′ e m = record {
     size = m .beside .size;
     word = λ i f g. m .beside .word i (f k s (refl, refl)) g;
     list = λ k′ s′ q. rw (q .0, q .1, e) (m .list);
   }
 
-  pub lists-as : {Q : ℕ → ℕ → Type 0} (R : ℕ → ℕ → Type 0) {ws ws′ : List ℕ} → ((k s : ℕ) → Q k s → R k s) → ((k s : ℕ) → R k s → Q k s) → Lists Q P zs t o free ws ws′ → Lists R P zs t o free ws ws′
+  pub lists-as : {Q : ℕ → ℕ → Type 0} (R : ℕ → ℕ → Type 0) {ws ws′ : List ℕ} → ((k s : ℕ) → Q k s → R k s) → ((k s : ℕ) → R k s → Q k s) → Lists Q P t H o free ws ws′ → Lists R P t H o free ws ws′
   lists-as R f g m = record { size = m .size; word = λ i h. m .word i (λ k s q. h k s (f k s q)); list = λ k s r. m .list k s (g k s r) }
 
   -- lists of two sets, one after the other
   pub both-lists : {Q R : ℕ → ℕ → Type 0} {ws ws′ ws″ : List ℕ} → o + layerWords P ≤ free → ((k s : ℕ) → Q k s → (k < counts) × (s < P .states)) → ((k s : ℕ) → R k s → s < P .states)
-      → ((k s : ℕ) → Q k s → R k s → ⊥) → Lists Q P zs t o free ws ws′ → Lists R P zs t o free ws′ ws″ → Lists (λ (k s : ℕ). Q k s ⊎ R k s) P zs t o free ws ws″
+      → ((k s : ℕ) → Q k s → R k s → ⊥) → Lists Q P t H o free ws ws′ → Lists R P t H o free ws′ ws″ → Lists (λ (k s : ℕ). Q k s ⊎ R k s) P t H o free ws ws″
   both-lists {Q} {R} {ws} {ws′} {ws″} u hq hr n m w = record {
     size = w .size ∙ m .size;
     word = λ i f g. w .word i (λ k s r. f k s (inr r)) g ∙ m .word i (λ k s q. f k s (inl q)) g;
     list = λ k s. ⊎-elim (λ q. first k s q) (λ r. w .list k s r);
   }
     where
-      first : (k s : ℕ) → Q k s → Curve t (t * stepMost) (baseOf P) (width P) ws″ (listAt o (P .states) (width P) k s) (tableAt P zs t k s)
+      first : (k s : ℕ) → Q k s → Curve t (t * stepMost) (baseOf P) (width P) ws″ (listAt o (P .states) (width P) k s) (H k s)
       first k s q =
           let b = list-within o (P .states) (width P) k s (hq k s q .0) (hq k s q .1) in
           kept-list (w .size)
@@ -78,77 +78,87 @@ module _ (P : Plan) (zs : List ℤ) (t o free : ℕ) where
 
 -- ---- the step
 
-module _ {P : Plan} {zs : List ℤ} {t cur next free : ℕ} {g : Shape} {ws : List ℕ} (a : StepReady P zs t cur next free g ws) where
-  -- the layer that is read is as it was
-  pub layer-kept : {Q : ℕ → ℕ → Type 0} {t′ : ℕ} {ws′ : List ℕ} → ((k s : ℕ) → Q k s → (k < counts) × (s < P .states)) → Lists Q P zs t′ next free ws ws′ → Layer P zs t ws′ cur
-  layer-kept {Q} {t′} {ws′} hq m = record {
-    list = λ k s hk hs.
-        let b = list-within cur (P .states) (width P) k s (used-low (a .task) t hk) hs in
-        kept-list (m .size) (λ i h h′. m .word i (λ k′ s′ q. elsewhere k′ s′ (hq k′ s′ q) i (omega arith) (omega arith)) (inl (omega (arith, a .below)))) (a .layer .list k s hk hs);
-  }
-    where
-      elsewhere : (k′ s′ : ℕ) → (k′ < counts) × (s′ < P .states) → (i : ℕ) → cur ≤ i → i < cur + layerWords P → Off (listAt next (P .states) (width P) k′ s′) (width P) i
-      elsewhere k′ s′ h i p q =
-          let b = list-within next (P .states) (width P) k′ s′ (h .0) (h .1) in
-          ⊎-elim (λ e. inl (omega arith)) (λ e. inr (omega arith)) (a .apart)
+-- a layer whose words are as before is the same layer
+pub layer-same : {P : Plan} {t : ℕ} {H : Table} {ws ws′ : List ℕ} {o : ℕ} → length ws′ ≡ length ws → ((i : ℕ) → o ≤ i → i < o + layerWords P → getD ws′ i 0 ≡ getD ws i 0) → LayerOf P t H ws o → LayerOf P t H ws′ o
+layer-same {P} {t} {H} {ws} {ws′} {o} e f l = record {
+  list = λ k s hk hs.
+      let w = list-within o (P .states) (width P) k s (omega (arith, used-most (labelOn P t))) hs in
+      kept-list e (λ i h h′. f i (omega arith) (omega arith)) (l .list k s hk hs);
+}
 
-  pub still-ready : {Q : ℕ → ℕ → Type 0} {t′ : ℕ} {ws′ : List ℕ} → ((k s : ℕ) → Q k s → (k < counts) × (s < P .states)) → Lists Q P zs t′ next free ws ws′ → StepReady P zs t cur next free g ws′
+-- so is one apart from the lists that are made
+pub layer-kept : {P : Plan} {t o : ℕ} {H : Table} {ws : List ℕ} {next free : ℕ} → Aside P o next free → LayerOf P t H ws o
+    → {Q : ℕ → ℕ → Type 0} {t′ : ℕ} {H′ : Table} {ws′ : List ℕ} → ((k s : ℕ) → Q k s → (k < counts) × (s < P .states)) → Lists Q P t′ H′ next free ws ws′ → LayerOf P t H ws′ o
+layer-kept {P} {t} {o} {H} {ws} {next} {free} b l hq m = layer-same (m .size) (λ i h h′. m .word i (λ k′ s′ q. elsewhere k′ s′ (hq k′ s′ q) i h h′) (inl (omega (arith, b .below)))) l
+  where
+    elsewhere : (k′ s′ : ℕ) → (k′ < counts) × (s′ < P .states) → (i : ℕ) → o ≤ i → i < o + layerWords P → Off (listAt next (P .states) (width P) k′ s′) (width P) i
+    elsewhere k′ s′ h i p q =
+        let w = list-within next (P .states) (width P) k′ s′ (h .0) (h .1) in
+        ⊎-elim (λ e. inl (omega arith)) (λ e. inr (omega arith)) (b .apart)
+
+module _ {P : Plan} {zs : List ℤ} {t cur moved next free : ℕ} {g : Shape} {ws : List ℕ} (a : StepReady P zs t cur moved next free g ws) where
+  -- the layers that are read are as they were
+  pub sources-kept : {T : ℕ → Table} {Q : ℕ → ℕ → Type 0} {t′ : ℕ} {H : Table} {ws′ : List ℕ} → ((k s : ℕ) → Q k s → (k < counts) × (s < P .states)) → Lists Q P t′ H next free ws ws′
+      → Sources P t T ws cur moved → Sources P t T ws′ cur moved
+  sources-kept hq m l = record { stays = layer-kept (a .stays) (l .stays) hq m; changes = layer-kept (a .changes) (l .changes) hq m }
+
+  pub still-ready : {Q : ℕ → ℕ → Type 0} {t′ : ℕ} {H : Table} {ws′ : List ℕ} → ((k s : ℕ) → Q k s → (k < counts) × (s < P .states)) → Lists Q P t′ H next free ws ws′ → StepReady P zs t cur moved next free g ws′
   still-ready hq m = record {
     task = a .task;
-    some = a .some;
     more = a .more;
-    layer = layer-kept hq m;
-    apart = a .apart;
-    below = a .below;
+    tables = a .tables;
+    sources = sources-kept hq m (a .sources);
+    stays = a .stays;
+    changes = a .changes;
     under = a .under;
     room = omega (arith, a .room, m .size);
     place = a .place;
   }
 
-  pub list-ready : {o : Option Label} {k s : ℕ} → o ≡ labelOn P t → k < counts → s < P .states → (dst : ℕ) → dst ≡ listAt next (P .states) (width P) k s → NextReady P zs o t cur dst free k s g ws
+  pub list-ready : {o : Option Label} {k s : ℕ} → o ≡ labelOn P t → k < counts → s < P .states → (dst : ℕ) → dst ≡ listAt next (P .states) (width P) k s → NextReady P zs o t cur moved dst free k s g ws
   list-ready {o} {k} {s} e hk hs dst d =
       let b = list-within next (P .states) (width P) k s hk hs in
       record {
         task = a .task;
         on = e;
-        some = a .some;
         more = a .more;
-        layer = a .layer;
+        tables = a .tables;
+        sources = a .sources;
         count = hk;
         state = hs;
-        apart = ⊎-elim (λ q. inl (omega arith)) (λ q. inr (omega arith)) (a .apart);
-        below = a .below;
+        below = a .stays .below;
+        moved-below = a .changes .below;
         under = omega (arith, a .under);
         room = a .room;
         place = a .place;
       }
 
-module _ {P : Plan} {zs : List ℤ} (t o free : ℕ) (under : o + layerWords P ≤ free) {ws ws′ ws″ : List ℕ} where
+module _ {P : Plan} (t : ℕ) {H : Table} (o free : ℕ) (under : o + layerWords P ≤ free) {ws ws′ ws″ : List ℕ} where
   -- one list more of a count
-  pub count-more : {k n : ℕ} → k < counts → n < P .states → Lists (OfCount k n) P zs (suc t) o free ws ws′ → NextList P zs t (listAt o (P .states) (width P) k n) free k n ws′ ws″
-      → Lists (OfCount k (n + 1)) P zs (suc t) o free ws ws″
+  pub count-more : {k n : ℕ} → k < counts → n < P .states → Lists (OfCount k n) P (suc t) H o free ws ws′ → NextList P t H (listAt o (P .states) (width P) k n) free k n ws′ ws″
+      → Lists (OfCount k (n + 1)) P (suc t) H o free ws ws″
   count-more {k} {n} hk hn m w =
-      lists-as P zs (suc t) o free (OfCount k (n + 1)) (λ k′ s′. ⊎-elim (λ q. (q .0, omega (arith, q .1))) (λ q. (q .0, omega (arith, q .1)))) (λ k′ s′ q. ⊎-elim (λ p. inr (q .0, omega (arith, q .1))) (λ p. inl (q .0, p)) (le-or-lt n s′))
-      (both-lists P zs (suc t) o free under (λ k′ s′ q. (omega (arith, q .0), omega (arith, q .1))) (λ k′ s′ q. omega (arith, q .1)) (λ k′ s′ p q. omega (arith, p .1, q .1)) m (one-list P zs (suc t) o free t refl w))
+      lists-as P (suc t) H o free (OfCount k (n + 1)) (λ k′ s′. ⊎-elim (λ q. (q .0, omega (arith, q .1))) (λ q. (q .0, omega (arith, q .1)))) (λ k′ s′ q. ⊎-elim (λ p. inr (q .0, omega (arith, q .1))) (λ p. inl (q .0, p)) (le-or-lt n s′))
+      (both-lists P (suc t) H o free under (λ k′ s′ q. (omega (arith, q .0), omega (arith, q .1))) (λ k′ s′ q. omega (arith, q .1)) (λ k′ s′ p q. omega (arith, p .1, q .1)) m (one-list P (suc t) H o free t refl w))
 
   -- one count more
-  pub counts-more : {n : ℕ} → n < counts → Lists (Counts P n) P zs (suc t) o free ws ws′ → Lists (OfCount n (P .states)) P zs (suc t) o free ws′ ws″ → Lists (Counts P (n + 1)) P zs (suc t) o free ws ws″
+  pub counts-more : {n : ℕ} → n < counts → Lists (Counts P n) P (suc t) H o free ws ws′ → Lists (OfCount n (P .states)) P (suc t) H o free ws′ ws″ → Lists (Counts P (n + 1)) P (suc t) H o free ws ws″
   counts-more {n} hn m w =
-      lists-as P zs (suc t) o free (Counts P (n + 1)) (λ k′ s′. ⊎-elim (λ q. (omega (arith, q .0), q .1)) (λ q. (omega (arith, q .0), q .1))) (λ k′ s′ q. ⊎-elim (λ p. inr (omega (arith, q .0), q .1)) (λ p. inl (p, q .1)) (le-or-lt n k′))
-      (both-lists P zs (suc t) o free under (λ k′ s′ q. (omega (arith, q .0), q .1)) (λ k′ s′ q. q .1) (λ k′ s′ p q. omega (arith, p .0, q .0)) m w)
+      lists-as P (suc t) H o free (Counts P (n + 1)) (λ k′ s′. ⊎-elim (λ q. (omega (arith, q .0), q .1)) (λ q. (omega (arith, q .0), q .1))) (λ k′ s′ q. ⊎-elim (λ p. inr (omega (arith, q .0), q .1)) (λ p. inl (p, q .1)) (le-or-lt n k′))
+      (both-lists P (suc t) H o free under (λ k′ s′ q. (omega (arith, q .0), q .1)) (λ k′ s′ q. q .1) (λ k′ s′ p q. omega (arith, p .0, q .0)) m w)
 
 pub next-used : (P : Plan) {k n : ℕ} (t : ℕ) → k ≡ n → n ≡ usedAt P (t + 1) → k ≡ usedAt P (suc t)
 next-used P t e h = e ∙ h ∙ ap (usedAt P) (add-one t)
 
-pub stepped : {P : Plan} {zs : List ℤ} {t o free n : ℕ} {ws ws′ : List ℕ} → n ≡ usedAt P t → n ≤ counts → Lists (Counts P n) P zs t o free ws ws′ → Stepped P zs t o free ws ws′
-stepped {P} {zs} {t} {o} {free} {n} {ws} {ws′} e few m = record {
+pub stepped : {P : Plan} {t : ℕ} {H : Table} {o free n : ℕ} {ws ws′ : List ℕ} → n ≡ usedAt P t → n ≤ counts → Lists (Counts P n) P t H o free ws ws′ → Stepped P t H o free ws ws′
+stepped {P} {t} {H} {o} {free} {n} {ws} {ws′} e few m = record {
   size = m .size;
   word = λ i f. m .word i (λ k s q. let b = list-within o (P .states) (width P) k s (omega (arith, q .0)) (q .1) in ⊎-elim (λ h. inl (omega arith)) (λ h. inr (omega arith)) f);
   layer = record { list = λ k s hk hs. m .list k s (omega arith, hs) };
 }
 
 module _ {P : Plan} {zs : List ℤ} {o free : ℕ} {g : Shape} {ws : List ℕ} (a : StartReady P zs o free g ws) where
-  pub still-start : {Q : ℕ → ℕ → Type 0} {t : ℕ} {ws′ : List ℕ} → Lists Q P zs t o free ws ws′ → StartReady P zs o free g ws′
+  pub still-start : {Q : ℕ → ℕ → Type 0} {t : ℕ} {H : Table} {ws′ : List ℕ} → Lists Q P t H o free ws ws′ → StartReady P zs o free g ws′
   still-start m = record { task = a .task; more = a .more; under = a .under; room = omega (arith, a .room, m .size); place = a .place }
 
   pub first-list-ready : {k s : ℕ} → k < counts → s < P .states → (dst : ℕ) → dst ≡ listAt o (P .states) (width P) k s → FirstReady P zs dst free k s g ws
@@ -156,9 +166,9 @@ module _ {P : Plan} {zs : List ℤ} {o free : ℕ} {g : Shape} {ws : List ℕ} (
       let b = list-within o (P .states) (width P) k s hk hs in
       record { task = a .task; more = a .more; state = hs; under = omega (arith, a .under); room = a .room }
 
-pub count-all : {P : Plan} {zs : List ℤ} {t o free k n m : ℕ} {ws ws′ : List ℕ} → n ≡ m → Lists (OfCount k n) P zs t o free ws ws′ → Lists (OfCount k m) P zs t o free ws ws′
-count-all {P} {zs} {t} {o} {free} {k} {n} {m} {ws} {ws′} e l = subst (λ (x : ℕ). Lists (OfCount k x) P zs t o free ws ws′) e l
+pub count-all : {P : Plan} {t : ℕ} {H : Table} {o free k n m : ℕ} {ws ws′ : List ℕ} → n ≡ m → Lists (OfCount k n) P t H o free ws ws′ → Lists (OfCount k m) P t H o free ws ws′
+count-all {P} {t} {H} {o} {free} {k} {n} {m} {ws} {ws′} e l = subst (λ (x : ℕ). Lists (OfCount k x) P t H o free ws ws′) e l
 
 -- a list made at the place that code computed
-pub made-at : {P : Plan} {zs : List ℤ} {t dst dst′ free k s : ℕ} {ws ws′ : List ℕ} → dst ≡ dst′ → NextList P zs t dst free k s ws ws′ → NextList P zs t dst′ free k s ws ws′
-made-at {P} {zs} {t} {dst} {dst′} {free} {k} {s} {ws} {ws′} e m = subst (λ (x : ℕ). NextList P zs t x free k s ws ws′) e m
+pub made-at : {P : Plan} {t : ℕ} {H : Table} {dst dst′ free k s : ℕ} {ws ws′ : List ℕ} → dst ≡ dst′ → NextList P t H dst free k s ws ws′ → NextList P t H dst′ free k s ws ws′
+made-at {P} {t} {H} {dst} {dst′} {free} {k} {s} {ws} {ws′} e m = subst (λ (x : ℕ). NextList P t H x free k s ws ws′) e m

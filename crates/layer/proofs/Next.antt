@@ -17,13 +17,15 @@ use mir.Syntax.{w16}
 use mir.Val.{SFits, toZ, ofZ, hbits}
 use Rattle.plan.specs.declared.Plan.{Plan}
 use Rattle.plan.specs.declared.Label.{Label}
+use Rattle.plan.specs.declared.Kind.{Kind}
+use Rattle.plan.specs.declared.Kind.the-variants.{Stay, Any, Up, Down, Abs}
 use Rattle.integers.specs.Rep.{iz, nz, _⊕_, eqN, leZof, sfitsN}
-use Rattle.model.specs.Model.{width, above, edgeAt, onGrid, lossAt, inSet}
+use Rattle.model.specs.Model.{width, above, edgeAt, changeOf, onGrid, lossAt, inSet}
 use Rattle.model.specs.Grid.{above-add}
 use Rattle.model.specs.Labels.{labelOn, counts, usedAt, used-most, countBefore}
 use Rattle.model.specs.Held.{fromCount, leads-used}
 use Rattle.model.specs.Index.{noCost}
-use Rattle.model.specs.Held.{raise, penaltyMost, Table, minBelow, min-none, byEdge, leadsAt, firstTable, nextTable}
+use Rattle.model.specs.Held.{raise, penaltyMost, Table, minBelow, min-none, byEdge, leadsAt, firstTable, nextFrom, nextTable}
 use Rattle.model.specs.Ends.{lossMost, losses-low, tableAt}
 use Rattle.labels.specs.Boundary.{leadsFrom, leads-at}
 use Rattle.quadratic.specs.Quad.{none, flat}
@@ -32,8 +34,8 @@ use Rattle.curve.specs.Pieces.{Kept, Made, Apart}
 use Rattle.curve.specs.Curve.{Curve, Limits, curve-as, curve-kept, curve-costs, curve-wider, curve-flat, near}
 use Rattle.edges.specs.Edge.{Hand, Spared, Sound, Off, WithLoss, loss-place}
 use Rattle.layer.specs.declared.Shape.{Shape}
-use Rattle.layer.specs.Layer.{tempWords, stepMost, baseOf, listAt, layerWords, Shape-small, ShapeOf, Layer}
-use Rattle.layer.specs.Step.{source, offered, offered-by, edgeOf, leastOffered, EdgesReady, TookEdges}
+use Rattle.layer.specs.Layer.{tempWords, stepMost, baseOf, listAt, layerWords, Shape-small, ShapeOf, fromPlace, LayerOf, Sources}
+use Rattle.layer.specs.Step.{sourceOf, offered, offered-by, edgeOf, leastOffered, EdgesReady, TookEdges}
 use Rattle.layer.specs.Next.{Task, Beside, NextReady, NextList, FirstReady, firstCost}
 
 -- a list lies within its layer
@@ -45,10 +47,10 @@ list-within o S L k s hk hs =
     (omega arith, omega (arith, mul-le-mul-right (4 * L) h))
 
 -- the table of one reading more
-pub table-next : (P : Plan) (zs : List ℤ) (t k s j : ℕ) → 1 ≤ t → nextTable P zs t (tableAt P zs t) k s j ≡ tableAt P zs (suc t) k s j
+pub table-next : (P : Plan) (zs : List ℤ) (t : ℕ) → 1 ≤ t → nextTable P zs t (tableAt P zs t) ≡ tableAt P zs (suc t)
 unfolding tableAt
-table-next P zs zero k s j h = absurd (omega arith)
-table-next P zs (suc t) k s j h = refl
+table-next P zs zero h = absurd (omega arith)
+table-next P zs (suc t) h = refl
 
 pub min-ext : (n : ℕ) (f g : ℕ → ℕ) → ((i : ℕ) → i < n → f i ≡ g i) → minBelow n f ≡ minBelow n g
 unfolding minBelow
@@ -117,7 +119,16 @@ module _ {P : Plan} {zs : List ℤ} {g : Shape} (a : Task P zs g) where
 pub reading-is : (z : ℤ) (u : ℕ) → mag z < 2 ^ hbits w16 → pos u ≡ toZ w16 (ofZ w16 z) +ℤ pos 163840 → pos u ≡ z +ℤ pos 163840
 reading-is z u h e = let f : SFits w16 z = record { sfits = h } in rw (toZ-ofZ f) at e
 
-module _ {P : Plan} {zs : List ℤ} {o : Option Label} {t cur dst free k s : ℕ} {g : Shape} {ws : List ℕ} (a : NextReady P zs o t cur dst free k s g ws) where
+-- the layer that an edge comes from
+pub source-layer : {P : Plan} {t : ℕ} {T : ℕ → Table} {ws : List ℕ} {cur moved : ℕ} → Sources P t T ws cur moved → (x : Kind) → LayerOf P t (T (changeOf x)) ws (fromPlace (changeOf x) cur moved)
+unfolding changeOf fromPlace
+source-layer m Stay = m .stays
+source-layer m Any = m .changes
+source-layer m (Up gap) = m .changes
+source-layer m (Down gap) = m .changes
+source-layer m (Abs gap) = m .changes
+
+module _ {P : Plan} {zs : List ℤ} {o : Option Label} {t cur moved dst free k s : ℕ} {g : Shape} {ws : List ℕ} (a : NextReady P zs o t cur moved dst free k s g ws) where
   abbrev size : ℕ
   size = 4 * g .levels
 
@@ -134,38 +145,52 @@ module _ {P : Plan} {zs : List ℤ} {o : Option Label} {t cur dst free k s : ℕ
   before-low : (e : ℕ) → leadsFrom o t (edgeOf (P .edges) e) k s ≡ true → countBefore o t (edgeAt P e .kind) k < counts
   before-low e l = used-low (a .task) t (before-used e l)
 
-  -- the list that an edge comes from, and what it costs
-  source-list : (e : ℕ) → e < P .edgecount → leadsFrom o t (edgeOf (P .edges) e) k s ≡ true
-      → Curve t (t * stepMost) (g .base) (g .levels) ws (source o t (edgeOf (P .edges) e) k cur g) (tableAt P zs t (countBefore o t (edgeAt P e .kind) k) (edgeAt P e .from))
-  source-list e h l =
-      to-shape (a .task .shape)
-      (rw (a .task .shape .states, a .task .shape .levels) (a .layer .list (countBefore o t (edgeAt P e .kind) k) (edgeAt P e .from) (before-used e l) (a .task .ready .plan .edge e h .from-below)))
+  -- where an edge comes from
+  abbrev place : ℕ → ℕ
+  place e = fromPlace (changeOf (edgeAt P e .kind)) cur moved
 
-  source-below : (e : ℕ) → e < P .edgecount → leadsFrom o t (edgeOf (P .edges) e) k s ≡ true → source o t (edgeOf (P .edges) e) k cur g + size ≤ free
+  place-below : (e : ℕ) → place e + layerWords P ≤ free
+  unfolding fromPlace
+  place-below e = from-one (changeOf (edgeAt P e .kind))
+    where
+      from-one : (c : ℕ) → fromPlace c cur moved + layerWords P ≤ free
+      from-one zero = a .below
+      from-one (suc c) = a .moved-below
+
+  source-below : (e : ℕ) → e < P .edgecount → leadsFrom o t (edgeOf (P .edges) e) k s ≡ true → sourceOf o t (edgeOf (P .edges) e) k cur moved g + size ≤ free
   source-below e h l =
-      let w = list-within cur (P .states) (width P) (countBefore o t (edgeAt P e .kind) k) (edgeAt P e .from) (before-low e l) (a .task .ready .plan .edge e h .from-below) in
-      rw (a .task .shape .states, a .task .shape .levels) (omega (arith, w, a .below))
+      let w = list-within (place e) (P .states) (width P) (countBefore o t (edgeAt P e .kind) k) (edgeAt P e .from) (before-low e l) (a .task .ready .plan .edge e h .from-below) in
+      rw (a .task .shape .states, a .task .shape .levels) (omega (arith, w, place-below e))
 
   most : t * stepMost ≤ 18014398509481984 - penaltyMost
   most = omega (arith, mul-le-mul-right stepMost few)
 
-  module _ {w1 : List ℕ} (m1 : Made (λ (j : ℕ). flat none) ws w1 free (g .levels)) where
-    source-kept : (e : ℕ) → e < P .edgecount → leadsFrom o t (edgeOf (P .edges) e) k s ≡ true
-        → Curve t (t * stepMost) (g .base) (g .levels) w1 (source o t (edgeOf (P .edges) e) k cur g) (tableAt P zs t (countBefore o t (edgeAt P e .kind) k) (edgeAt P e .from))
-    source-kept e h l = let c = source-list e h l in curve-kept (m1 .kept) c (near free c (inl (source-below e h l)))
+  module _ (T : ℕ → Table) (m : Sources P t T ws cur moved) where
+    -- the list that an edge comes from, and what it costs
+    source-list : (e : ℕ) → e < P .edgecount → leadsFrom o t (edgeOf (P .edges) e) k s ≡ true
+        → Curve t (t * stepMost) (g .base) (g .levels) ws (sourceOf o t (edgeOf (P .edges) e) k cur moved g) (T (changeOf (edgeAt P e .kind)) (countBefore o t (edgeAt P e .kind) k) (edgeAt P e .from))
+    source-list e h l =
+        to-shape (a .task .shape)
+        (rw (a .task .shape .states, a .task .shape .levels) (source-layer m (edgeAt P e .kind) .list (countBefore o t (edgeAt P e .kind) k) (edgeAt P e .from) (before-used e l) (a .task .ready .plan .edge e h .from-below)))
 
+    source-kept : {w1 : List ℕ} → Made (λ (j : ℕ). flat none) ws w1 free (g .levels) → (e : ℕ) → e < P .edgecount → leadsFrom o t (edgeOf (P .edges) e) k s ≡ true
+        → Curve t (t * stepMost) (g .base) (g .levels) w1 (sourceOf o t (edgeOf (P .edges) e) k cur moved g) (T (changeOf (edgeAt P e .kind)) (countBefore o t (edgeAt P e .kind) k) (edgeAt P e .from))
+    source-kept m1 e h l = let c = source-list e h l in curve-kept (m1 .kept) c (near free c (inl (source-below e h l)))
+
+  module _ {w1 : List ℕ} (m1 : Made (λ (j : ℕ). flat none) ws w1 free (g .levels)) where
     room-now : free + 3 * size ≤ length w1
     room-now = omega (arith, m1 .kept .size, a .room, a .task .shape .levels)
 
     acc-none : {A B : ℕ} → Curve A B (g .base) (g .levels) w1 free (λ (j : ℕ). none)
     acc-none = curve-flat (inl refl) (omega (arith, a .room, a .task .shape .levels)) m1
 
-    pub edges-ready : EdgesReady o t (P .edges) (P .edgecount) k s cur g free (free + size) (free + 2 * size) w1
+    pub edges-ready : EdgesReady o t (P .edges) (P .edgecount) k s cur moved g free (free + size) (free + 2 * size) w1
     edges-ready = record {
       small = shape-small (a .task);
       boundary = omega (arith, few);
       count = a .count;
       place = omega (arith, a .below, a .place);
+      place-moved = omega (arith, a .moved-below, a .place);
       limits = limits (a .task) 1048576 18014398509481984 (omega arith) (omega arith);
       few = a .task .ready .plan .few-edges;
       some = some-levels (a .task);
@@ -180,15 +205,16 @@ module _ {P : Plan} {zs : List ℤ} {o : Option Label} {t cur dst free k s : ℕ
         f-acc = inl b;
         room-acc = omega (arith, room-now);
       };
-      sound = λ e h l. curve-costs (curve-wider 1048576 (18014398509481984 - penaltyMost) (omega (arith, few)) most (source-kept e h l));
+      sound = λ e h l. curve-costs (curve-wider 1048576 (18014398509481984 - penaltyMost) (omega (arith, few)) most (source-kept (a .tables) (a .sources) m1 e h l));
     }
 
-    module _ {w2 : List ℕ} {r : ℕ} (m2 : TookEdges o t (P .edges) (P .edgecount) k s cur g w1 w2 free (free + size) (free + 2 * size) r) where
+    module _ {w2 : List ℕ} {r : ℕ} (m2 : TookEdges o t (P .edges) (P .edgecount) k s cur moved g w1 w2 free (free + size) (free + 2 * size) r) where
       -- the least over the edges
-      acc-least : Curve t (t * stepMost + penaltyMost) (g .base) (g .levels) w2 r (λ (j : ℕ). min none (leastOffered o t (P .edges) (P .edgecount) k s (g .levels) (tableAt P zs t) j))
-      acc-least =
-          m2 .curve t (t * stepMost + penaltyMost) (t * stepMost) (λ (j : ℕ). none) (tableAt P zs t) (limits (a .task) _ _ (omega (arith, few)) (omega (arith, most))) (omega arith) acc-none
-          (λ e h l. source-kept e h l)
+      acc-least : (T : ℕ → Table) → Sources P t T ws cur moved
+          → Curve t (t * stepMost + penaltyMost) (g .base) (g .levels) w2 r (λ (j : ℕ). min none (leastOffered o t (P .edges) (P .edgecount) k s (g .levels) T j))
+      acc-least T m =
+          m2 .curve t (t * stepMost + penaltyMost) (t * stepMost) (λ (j : ℕ). none) T (limits (a .task) _ _ (omega (arith, few)) (omega (arith, most))) (omega arith) acc-none
+          (λ e h l. source-kept T m m1 e h l)
 
       dst-apart : Apart r dst (4 * g .levels)
       dst-apart = inr (⊎-elim (λ e. omega (arith, a .under, a .task .shape .levels)) (λ e. omega (arith, a .under, a .task .shape .levels)) (m2 .place))
@@ -197,7 +223,7 @@ module _ {P : Plan} {zs : List ℤ} {o : Option Label} {t cur dst free k s : ℕ
       dst-room = omega (arith, a .under, a .task .shape .levels, a .room, m1 .kept .size, m2 .spared .size)
 
       acc-sound : Sound 18014398509481984 (g .base) (g .levels) w2 r
-      acc-sound = curve-costs (curve-wider 1048576 18014398509481984 (omega (arith, few)) (omega (arith, most)) acc-least)
+      acc-sound = curve-costs (curve-wider 1048576 18014398509481984 (omega (arith, few)) (omega (arith, most)) (acc-least (a .tables) (a .sources)))
 
       pub reading-ready : {u : ℕ} → (131072 ≤ u) × (u < 196608)
           → ((Apart r dst (4 * g .levels) × (dst + 4 * g .levels ≤ length w2)) × ((((131072 ≤ u) × (u < 196608)) × ((1 < 256) × (g .base + g .levels ≤ 196608))) × (Limits 1048576 18014398509481984 (g .base) (g .levels) × Sound 18014398509481984 (g .base) (g .levels) w2 r)))
@@ -205,23 +231,23 @@ module _ {P : Plan} {zs : List ℤ} {o : Option Label} {t cur dst free k s : ℕ
           ((dst-apart, dst-room), ((h, (omega arith, omega (arith, a .task .shape .base, a .task .shape .levels, places-to (a .task)))), (limits (a .task) 1048576 18014398509481984 (omega arith) (omega arith), acc-sound)))
 
       module _ (u : ℕ) (at : pos u ≡ getD zs t (pos 0) +ℤ pos 163840) {w3 : List ℕ} (m3 : WithLoss 1 u (g .base) (g .levels) w2 w3 r dst) where
-        value-is : (j : ℕ) → raise (min none (leastOffered o t (P .edges) (P .edgecount) k s (g .levels) (tableAt P zs t) j)) (1 * (far u (g .base + j) * far u (g .base + j))) ≡ tableAt P zs (suc t) k s j
-        unfolding nextTable
-        value-is j =
+        value-is : (T : ℕ → Table) (j : ℕ) → raise (min none (leastOffered o t (P .edges) (P .edgecount) k s (g .levels) T j)) (1 * (far u (g .base + j) * far u (g .base + j))) ≡ nextFrom P zs t T k s j
+        unfolding nextFrom
+        value-is T j =
             let L = a .task .shape .levels in
-            let x : leastOffered o t (P .edges) (P .edgecount) k s (g .levels) (tableAt P zs t) j ≡ minBelow (P .edgecount) (byEdge P t (tableAt P zs t) k s j) =
-            min-ext (P .edgecount) _ _ (λ e h. rw (L, a .on) (offered-by P t (tableAt P zs t) k s j e)) in
-            let y : min none (leastOffered o t (P .edges) (P .edgecount) k s (g .levels) (tableAt P zs t) j) ≡ minBelow (P .edgecount) (byEdge P t (tableAt P zs t) k s j) =
-            omega (arith, x, min-none (P .edgecount) (byEdge P t (tableAt P zs t) k s j)) in
+            let f : ℕ → ℕ = λ (e : ℕ). byEdge P t (T (changeOf (edgeAt P e .kind))) k s j e in
+            let x : leastOffered o t (P .edges) (P .edgecount) k s (g .levels) T j ≡ minBelow (P .edgecount) f =
+            min-ext (P .edgecount) _ _ (λ e h. rw (L, a .on) (offered-by P t (T (changeOf (edgeAt P e .kind))) k s j e)) in
+            let y : min none (leastOffered o t (P .edges) (P .edgecount) k s (g .levels) T j) ≡ minBelow (P .edgecount) f = omega (arith, x, min-none (P .edgecount) f) in
             let z : 1 * (far u (g .base + j) * far u (g .base + j)) ≡ lossAt zs t (P .lo +ℤ pos j) = omega (arith, loss-place zs t (P .lo) u (g .base) at (base-place (a .task)) j) in
-            rw (y, z) (table-next P zs t k s j (a .some))
+            rw (y, z) refl
 
-        next-curve : Curve (suc t) (suc t * stepMost) (baseOf P) (width P) w3 dst (tableAt P zs (suc t) k s)
-        next-curve =
+        next-curve : (T : ℕ → Table) → Sources P t T ws cur moved → Curve (suc t) (suc t * stepMost) (baseOf P) (width P) w3 dst (nextFrom P zs t T k s)
+        next-curve T m =
             of-shape (a .task .shape)
             (curve-wider (suc t) (suc t * stepMost) (omega arith) (omega arith)
-            (curve-as (tableAt P zs (suc t) k s) (λ j h. value-is j)
-            (m3 .curve t (t * stepMost + penaltyMost) _ (limits (a .task) _ _ (omega (arith, few)) (omega (arith, most))) acc-least)))
+            (curve-as (nextFrom P zs t T k s) (λ j h. value-is T j)
+            (m3 .curve t (t * stepMost + penaltyMost) _ (limits (a .task) _ _ (omega (arith, few)) (omega (arith, most))) (acc-least T m))))
 
         besides : Beside dst free (width P) ws w3
         besides = record { size = m3 .kept .size ∙ m2 .spared .size ∙ m1 .kept .size; word = word }
@@ -236,8 +262,8 @@ module _ {P : Plan} {zs : List ℤ} {o : Option Label} {t cur dst free k s : ℕ
                 ∙ m2 .spared .word i (off i free (omega arith) (omega arith) q) (off i (free + size) (omega arith) (omega arith) q) (off i (free + 2 * size) (omega arith) (omega arith) q)
                 ∙ ⊎-elim (λ x. m1 .kept .before i x) (λ x. m1 .kept .after i (omega arith)) q
 
-        pub next-list : NextList P zs t dst free k s ws w3
-        next-list = record { beside = besides; list = next-curve }
+        pub next-list : (T : ℕ → Table) → Sources P t T ws cur moved → NextList P t (nextFrom P zs t T) dst free k s ws w3
+        next-list T m = record { beside = besides; list = next-curve T m }
 
 -- ---- the first layer
 
@@ -275,8 +301,8 @@ module _ {P : Plan} {zs : List ℤ} {dst free k s : ℕ} {g : Shape} {ws : List 
   )
 
   module _ (u : ℕ) (at : pos u ≡ getD zs 0 (pos 0) +ℤ pos 163840) {w2 : List ℕ} (m2 : WithLoss 1 u (g .base) (g .levels) w1 w2 free dst) where
-    value-first : (j : ℕ) → raise c (1 * (far u (g .base + j) * far u (g .base + j))) ≡ tableAt P zs 1 k s j
-    unfolding tableAt firstTable firstCost raise
+    value-first : (j : ℕ) → raise c (1 * (far u (g .base + j) * far u (g .base + j))) ≡ firstTable P zs k s j
+    unfolding firstTable firstCost raise
     value-first j =
         let z : 1 * (far u (g .base + j) * far u (g .base + j)) ≡ lossAt zs 0 (P .lo +ℤ pos j) = omega (arith, loss-place zs 0 (P .lo) u (g .base) at (base-place (a .task)) j) in
         rw (is, z) (go (inSet (P .start) s && eqb k 0))
@@ -285,7 +311,7 @@ module _ {P : Plan} {zs : List ℤ} {dst free k s : ℕ} {g : Shape} {ws : List 
         go true = omega arith
         go false = refl
 
-    pub first-made : NextList P zs 0 dst free k s ws w2
+    pub first-made : NextList P 0 (firstTable P zs) dst free k s ws w2
     first-made = record {
       beside = record {
         size = m2 .kept .size ∙ m1 .kept .size;
@@ -296,5 +322,5 @@ module _ {P : Plan} {zs : List ℤ} {dst free k s : ℕ} {g : Shape} {ws : List 
       };
       list =
           of-shape (a .task .shape)
-          (curve-wider 1 (1 * stepMost) (omega arith) (omega arith) (curve-as (tableAt P zs 1 k s) (λ j h. value-first j) (m2 .curve 0 1 _ (limits (a .task) _ _ (omega arith) (omega arith)) acc-first)));
+          (curve-wider 1 (1 * stepMost) (omega arith) (omega arith) (curve-as (firstTable P zs k s) (λ j h. value-first j) (m2 .curve 0 1 _ (limits (a .task) _ _ (omega arith) (omega arith)) acc-first)));
     }

@@ -1,12 +1,12 @@
--- Layers in the workspace: for each count and state a list whose value at a level's index is the model's table. Assumes nothing.
+-- Layers in the workspace: for each count and state a list whose value at a level's index is the number of a table. Assumes nothing.
 use mathlib.Core.Path.{_≡_}
 use mathlib.Core.List.{List}
-use Prim.Native.Nat.{ℕ, _+_, _*_, _≤_, _<_}
+use Prim.Native.Nat.{ℕ, zero, suc, _+_, _*_, _≤_, _<_}
 use lib.IntN.{ℤ, pos, natAbs, _+ℤ_}
 use Rattle.plan.specs.declared.Plan.{Plan}
 use Rattle.model.specs.Model.{width}
 use Rattle.model.specs.Labels.{counts, usedAt}
-use Rattle.model.specs.Held.{penaltyMost}
+use Rattle.model.specs.Held.{penaltyMost, Table}
 use Rattle.model.specs.Ends.{lossMost, tableAt}
 use Rattle.curve.specs.Curve.{Curve}
 use Rattle.layer.specs.declared.Shape.{Shape}
@@ -48,6 +48,20 @@ layerWords P = layerCell * (P .states * width P)
 abbrev pub tempWords : ℕ → ℕ
 tempWords L = 12 * L
 
--- the layer after t readings stands at o: the lists of the counts that are used
-pub record Layer (P : Plan) (zs : List ℤ) (t : ℕ) (ws : List ℕ) (o : ℕ) : Type 0 where
-  pub list : (k s : ℕ) → k < usedAt P t → s < P .states → Curve t (t * stepMost) (baseOf P) (width P) ws (listAt o (P .states) (width P) k s) (tableAt P zs t k s)
+-- a layer of t readings with the numbers H stands at o: the lists of the counts that are used
+pub record LayerOf (P : Plan) (t : ℕ) (H : Table) (ws : List ℕ) (o : ℕ) : Type 0 where
+  pub list : (k s : ℕ) → k < usedAt P t → s < P .states → Curve t (t * stepMost) (baseOf P) (width P) ws (listAt o (P .states) (width P) k s) (H k s)
+
+-- the layer of the search after t readings
+abbrev pub Layer : Plan → List ℤ → ℕ → List ℕ → ℕ → Type 0
+Layer P zs t ws o = LayerOf P t (tableAt P zs t) ws o
+
+-- Where an edge with c changes comes from: a stay from the layer at cur, a change from the one at moved.
+unfoldable pub fromPlace : ℕ → ℕ → ℕ → ℕ
+fromPlace zero cur moved = cur
+fromPlace (suc c) cur moved = moved
+
+-- layers of t readings to go on from: with the numbers T 0 for stays, and T 1 for changes
+pub record Sources (P : Plan) (t : ℕ) (T : ℕ → Table) (ws : List ℕ) (cur moved : ℕ) : Type 0 where
+  pub stays : LayerOf P t (T 0) ws cur
+  pub changes : LayerOf P t (T 1) ws moved

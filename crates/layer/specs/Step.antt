@@ -9,7 +9,7 @@ use Rattle.plan.specs.declared.Plan.{Plan}
 use Rattle.plan.specs.declared.Edge.{Edge}
 use Rattle.plan.specs.declared.Label.{Label}
 use Rattle.plan.specs.Build.{gapOf, noEdge}
-use Rattle.model.specs.Model.{edgeAt, penalty, width}
+use Rattle.model.specs.Model.{edgeAt, changeOf, penalty, width}
 use Rattle.model.specs.Labels.{labelOn, countBefore, counts}
 use Rattle.model.specs.Held.{fromCount}
 use Rattle.model.specs.Index.{noCost, edgeMin}
@@ -18,11 +18,15 @@ use Rattle.labels.specs.Boundary.{leadsFrom, leads-at}
 use Rattle.curve.specs.Curve.{Curve, Limits}
 use Rattle.edges.specs.Edge.{Ready, OneOf, Spared, Hand, Sound}
 use Rattle.layer.specs.declared.Shape.{Shape}
-use Rattle.layer.specs.Layer.{Shape-small, placeMost, listAt}
+use Rattle.layer.specs.Layer.{Shape-small, placeMost, listAt, fromPlace}
 
 -- the list that the edge comes from
 abbrev pub source : Option Label → ℕ → Edge → ℕ → ℕ → Shape → ℕ
 source o t x k cur g = listAt cur (g .states) (g .levels) (countBefore o t (x .kind) k) (x .from)
+
+-- and in which of two layers, one for stays and one for changes
+abbrev pub sourceOf : Option Label → ℕ → Edge → ℕ → ℕ → ℕ → Shape → ℕ
+sourceOf o t x k cur moved g = source o t x k (fromPlace (changeOf (x .kind)) cur moved) g
 
 -- what the edge offers at list (k, s) and index j, over the table H
 unfoldable pub offered : Option Label → ℕ → Edge → ℕ → ℕ → ℕ → Table → ℕ → ℕ
@@ -58,16 +62,17 @@ pub record TookOne (o : Option Label) (t : ℕ) (x : Edge) (k s cur : ℕ) (g : 
 abbrev pub edgeOf : List Edge → ℕ → Edge
 edgeOf es e = getD es e noEdge
 
--- the least that the first n edges offer
-abbrev pub leastOffered : Option Label → ℕ → List Edge → ℕ → ℕ → ℕ → ℕ → Table → ℕ → ℕ
-leastOffered o t es n k s L H j = minBelow n (λ (e : ℕ). offered o t (edgeOf es e) k s L H j)
+-- the least that the first n edges offer, an edge with c changes over the table T c
+abbrev pub leastOffered : Option Label → ℕ → List Edge → ℕ → ℕ → ℕ → ℕ → (ℕ → Table) → ℕ → ℕ
+leastOffered o t es n k s L T j = minBelow n (λ (e : ℕ). offered o t (edgeOf es e) k s L (T (changeOf (edgeOf es e .kind))) j)
 
 -- what is asked before the edges are taken in: first is the least so far, the next ones go to second and first in turn
-pub record EdgesReady (o : Option Label) (t : ℕ) (es : List Edge) (n k s cur : ℕ) (g : Shape) (first second work : ℕ) (ws : List ℕ) : Type 0 where
+pub record EdgesReady (o : Option Label) (t : ℕ) (es : List Edge) (n k s cur moved : ℕ) (g : Shape) (first second work : ℕ) (ws : List ℕ) : Type 0 where
   pub small : Shape-small g
   pub boundary : t < 65536
   pub count : k < counts
   pub place : cur ≤ placeMost
+  pub place-moved : moved ≤ placeMost
   pub limits : Limits 1048576 18014398509481984 (g .base) (g .levels)
   pub few : n ≤ 32
   pub some : 0 < g .levels
@@ -75,13 +80,13 @@ pub record EdgesReady (o : Option Label) (t : ℕ) (es : List Edge) (n k s cur :
   pub from : (e : ℕ) → e < n → edgeOf es e .from < 8
   pub gap : (e : ℕ) → e < n → gapOf (edgeOf es e .kind) ≤ 1023
   pub before : (e : ℕ) → e < n → leadsFrom o t (edgeOf es e) k s ≡ true → countBefore o t (edgeOf es e .kind) k < counts
-  pub hand : (e : ℕ) → e < n → leadsFrom o t (edgeOf es e) k s ≡ true → Hand first second work (source o t (edgeOf es e) k cur g) (g .levels) (length ws)
-  pub sound : (e : ℕ) → e < n → leadsFrom o t (edgeOf es e) k s ≡ true → Sound (18014398509481984 - penaltyMost) (g .base) (g .levels) ws (source o t (edgeOf es e) k cur g)
+  pub hand : (e : ℕ) → e < n → leadsFrom o t (edgeOf es e) k s ≡ true → Hand first second work (sourceOf o t (edgeOf es e) k cur moved g) (g .levels) (length ws)
+  pub sound : (e : ℕ) → e < n → leadsFrom o t (edgeOf es e) k s ≡ true → Sound (18014398509481984 - penaltyMost) (g .base) (g .levels) ws (sourceOf o t (edgeOf es e) k cur moved g)
 
 -- the least over the first n edges stands at r
-pub record TookEdges (o : Option Label) (t : ℕ) (es : List Edge) (n k s cur : ℕ) (g : Shape) (ws ws′ : List ℕ) (first second work r : ℕ) : Type 0 where
+pub record TookEdges (o : Option Label) (t : ℕ) (es : List Edge) (n k s cur moved : ℕ) (g : Shape) (ws ws′ : List ℕ) (first second work r : ℕ) : Type 0 where
   pub place : OneOf first second r
   pub spared : Spared first second work (g .levels) ws ws′
-  pub curve : (A B C : ℕ) (F : ℕ → ℕ) (H : Table) → Limits A B (g .base) (g .levels) → C + penaltyMost ≤ B → Curve A B (g .base) (g .levels) ws first F
-      → ((e : ℕ) → e < n → leadsFrom o t (edgeOf es e) k s ≡ true → Curve A C (g .base) (g .levels) ws (source o t (edgeOf es e) k cur g) (H (countBefore o t (edgeOf es e .kind) k) (edgeOf es e .from)))
-      → Curve A B (g .base) (g .levels) ws′ r (λ (j : ℕ). min (F j) (leastOffered o t es n k s (g .levels) H j))
+  pub curve : (A B C : ℕ) (F : ℕ → ℕ) (T : ℕ → Table) → Limits A B (g .base) (g .levels) → C + penaltyMost ≤ B → Curve A B (g .base) (g .levels) ws first F
+      → ((e : ℕ) → e < n → leadsFrom o t (edgeOf es e) k s ≡ true → Curve A C (g .base) (g .levels) ws (sourceOf o t (edgeOf es e) k cur moved g) (T (changeOf (edgeOf es e .kind)) (countBefore o t (edgeOf es e .kind) k) (edgeOf es e .from)))
+      → Curve A B (g .base) (g .levels) ws′ r (λ (j : ℕ). min (F j) (leastOffered o t es n k s (g .levels) T j))

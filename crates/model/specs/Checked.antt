@@ -27,7 +27,7 @@ use Rattle.model.specs.Model.{edgeAt, labelAt, above, width, inSet, onGr
 use Rattle.model.specs.Bools.{clash}
 use Rattle.model.specs.Grid.{above-add}
 use Rattle.plan.specs.Counts.{countWithin, countOk, longOk, count-is, long-is}
-unfoldable pub use Rattle.model.specs.Refusals.{late, searchNumber, pointNumber, windowOk, windowNumber}
+unfoldable pub use Rattle.model.specs.Refusals.{late, searchNumber, pointNumber, tableNumber, windowOk, windowNumber}
 
 pub record GoodEdge (P : Plan) (e : ℕ) : Type 0 where
   pub from-below : edgeAt P e .from < P .states
@@ -341,6 +341,12 @@ accepted-point P n s m h =
     let (e, r₄) = zero-else (onGrid P m) 0 4 (λ e. omega arith) r₃ in
     let k = count-is n c in
     record { plan = checked P a; sealed = b; some-readings = omega (arith, k .0); few-readings = k .1; state = ltb-true s (P .states) d; level = e }
+
+pub accepted-table : (P : Plan) (n most : ℕ) → tableNumber P n most ≡ 0 → (searchNumber P n ≡ 0) × (most ≤ 32)
+unfolding tableNumber
+accepted-table P n most h =
+    let (a, r) = or-zero (searchNumber P n) _ h in
+    (a, leb-true most 32 (zero-else (leb most 32) 0 20 (λ e. omega arith) r .0))
 
 -- no label is late where there is none
 not-late : (P : Plan) (n : ℕ) → P .labelcount ≡ 0 → late P n ≡ false

@@ -43,7 +43,7 @@ in-eachOf y [] f x h k = absurd h
 in-eachOf {A} y (z ∷ xs) f x (inl e) k = in-left y (f z) (eachOf xs f) (subst (λ (w : A). In y (f w)) e k)
 in-eachOf y (z ∷ xs) f x (inr h) k = in-right y (f z) (eachOf xs f) (in-eachOf y xs f x h k)
 
-in-keep : {A : Type 0} (t : A → Bool) (x : A) (xs : List A) → In x xs → t x ≡ true → In x (keep t xs)
+pub in-keep : {A : Type 0} (t : A → Bool) (x : A) (xs : List A) → In x xs → t x ≡ true → In x (keep t xs)
 unfolding keep
 in-keep t x [] h p = absurd h
 in-keep {A} t x (z ∷ xs) h p = go (t z) refl h (in-keep t x xs)
@@ -54,7 +54,7 @@ in-keep {A} t x (z ∷ xs) h p = go (t z) refl h (in-keep t x xs)
     go false e (inl q) ih = let w : _≡_ {A = Bool} true false = sym p ∙ ap t q ∙ e in clash (sym w)
     go false e (inr q) ih = ih q p
 
-keep-in : {A : Type 0} (t : A → Bool) (x : A) (xs : List A) → In x (keep t xs) → t x ≡ true
+pub keep-in : {A : Type 0} (t : A → Bool) (x : A) (xs : List A) → In x (keep t xs) → t x ≡ true
 unfolding keep
 keep-in t x [] h = absurd h
 keep-in t x (z ∷ xs) h = go (t z) refl h (keep-in t x xs)
@@ -175,7 +175,7 @@ module _ (P : Plan) (n : ℕ) (g : Seg) where
       yes-and _ _ (eq-eqb _ _ (a .count)) (yes-and _ _ (follows-test P g (a .follows))
       (yes-all _ (P .labelcount) (λ i k. holds-test _ _ _ _ (a .labels i k))))
 
-  test-whole : wholeTest P n g ≡ true → AllowedWhole P n g
+  pub test-whole : wholeTest P n g ≡ true → AllowedWhole P n g
   unfolding wholeTest
   test-whole h =
       let (a, r) = and-yes (eqb (readings g) n) _ h in
@@ -188,7 +188,7 @@ module _ (P : Plan) (n : ℕ) (g : Seg) where
         ends = d;
       }
 
-  whole-test : AllowedWhole P n g → wholeTest P n g ≡ true
+  pub whole-test : AllowedWhole P n g → wholeTest P n g ≡ true
   unfolding wholeTest
   whole-test a =
       yes-and _ _ (eq-eqb _ _ (a .count)) (yes-and _ _ (follows-test P g (a .follows))
@@ -298,12 +298,12 @@ module _ (P : Plan) (zs : List ℤ) (built : planNumber P ≡ 0) where
 
 -- ---- the listed cost at a point is the least, and is none exactly where no segmentation ends there
 
-least-some : (P : Plan) (zs : List ℤ) (gs : List Seg) (g : Seg) → leastIn P zs gs ≡ none → In g gs → ⊥
+pub least-some : (P : Plan) (zs : List ℤ) (gs : List Seg) (g : Seg) → leastIn P zs gs ≡ none → In g gs → ⊥
 unfolding leastIn
 least-some P zs [] g e h = h
 least-some P zs (y ∷ ys) g e h = let z : _≡_ {A = ℕ} 0 1 = cc in omega arith
 
-least-in : (P : Plan) (zs : List ℤ) (gs : List Seg) (c : ℕ) → leastIn P zs gs ≡ some c
+pub least-in : (P : Plan) (zs : List ℤ) (gs : List Seg) (c : ℕ) → leastIn P zs gs ≡ some c
     → ((g : Seg) × In g gs × (cost P zs g ≡ c)) × ((g : Seg) → In g gs → c ≤ cost P zs g)
 unfolding leastIn
 least-in P zs [] c p = let z : _≡_ {A = ℕ} 0 1 = cc in absurd (omega arith)

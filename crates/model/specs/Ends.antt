@@ -19,7 +19,7 @@ use Rattle.plan.specs.declared.Plan.{Plan}
 use Rattle.model.specs.Cost.{Cost, value}
 use Rattle.model.specs.Bools.{and-yes}
 use Rattle.model.specs.Grid.{leZ-nat, abs-is}
-use Rattle.model.specs.Least.{given, firstHit, first-hit-is, Upto}
+use Rattle.model.specs.Least.{leastBelow, given, firstHit, first-hit-is, Upto}
 use Rattle.model.specs.Model.{edgeAt, width, penaltyOf, inSet, onGrid, lossAt, square}
 use Rattle.model.specs.Checked.{Checked, searchNumber, pointNumber, accepted, accepted-point}
 use Rattle.model.specs.Result.{whole, point, found, refused, foundSeg, foundCost, resultOf}
@@ -32,7 +32,7 @@ use Rattle.model.specs.Answer.{endCost, leastEnd, answer, trace, trace-r
 use Rattle.model.specs.Run.{run, joins, runs, runNumbers, numbers}
 use Rattle.model.specs.Runs.{wayBack, walkBack, walk-step, walk-runs, runs-from, backFrom}
 use Rattle.model.specs.Index.{noCost, held, held-some, some-held, none-held, Permitted, permitted-yes, yes-permitted}
-use Rattle.model.specs.Held.{penaltyMost, Table, edgeLeast, Holding, minBelow, held-least, held-given, least-ext, fromCount, leadsAt, leads-count, step-back, firstTable, nextTable, first-holding, next-holding}
+use Rattle.model.specs.Held.{penaltyMost, Table, edgeLeast, HoldingOf, Holding, minBelow, held-least, held-given, least-ext, fromCount, leadsAt, leads-count, step-back, firstTable, nextTable, first-holding, next-holding}
 
 -- ---- the losses of 16-bit numbers
 
@@ -80,6 +80,24 @@ endAt P H s j = cond (inSet (P .end) s) (H 0 s j) noCost
 unfoldable pub leastEndAt : Plan → Table → ℕ
 leastEndAt P H = minBelow (P .states) (λ s. minBelow (width P) (λ j. endAt P H s j))
 
+-- the cost of a layer at an end, and the least of them
+abbrev pub endOf : Plan → (Node → Option Cost) → ℕ → ℕ → Option Cost
+endOf P F s j = given (inSet (P .end) s) (F (node 0 s (P .lo +ℤ pos j)))
+
+unfoldable pub leastEndOf : Plan → (Node → Option Cost) → Option Cost
+leastEndOf P F = leastBelow (P .states) (λ s. leastBelow (width P) (λ j. endOf P F s j))
+
+module _ (P : Plan) (F : Node → Option Cost) (H : Table) (hold : HoldingOf P F H) where
+  end-held-of : (s j : ℕ) → s < P .states → j < width P → held (endAt P H s j) ≡ endOf P F s j
+  unfolding endAt
+  end-held-of s j hs hj = held-given (inSet (P .end) s) (H 0 s j) ∙ ap (given (inSet (P .end) s)) (hold .at 0 s j (omega arith) hs hj)
+
+  pub least-end-of : held (leastEndAt P H) ≡ leastEndOf P F
+  unfolding leastEndAt leastEndOf
+  least-end-of =
+      held-least (P .states) (λ s. minBelow (width P) (λ j. endAt P H s j))
+      ∙ least-ext (P .states) _ _ (λ s hs. held-least (width P) (λ j. endAt P H s j) ∙ least-ext (width P) _ _ (λ j hj. end-held-of s j hs hj))
+
 module _ (P : Plan) (zs : List ℤ) (H : Table) (hold : Holding P zs (length zs) H) where
   pub point-held : Checked P → (s j : ℕ) → s < P .states → j < width P → pointCost P zs s (P .lo +ℤ pos j) ≡ held (pointAt (usedAt P (length zs)) H s j)
   unfolding pointCost pointBest pointAt value
@@ -95,14 +113,12 @@ module _ (P : Plan) (zs : List ℤ) (H : Table) (hold : Holding P zs (length zs)
       same (some x) = refl
 
   end-held : (s j : ℕ) → s < P .states → j < width P → held (endAt P H s j) ≡ endCost P zs s j
-  unfolding endAt endCost
-  end-held s j hs hj = held-given (inSet (P .end) s) (H 0 s j) ∙ ap (given (inSet (P .end) s)) (hold .at 0 s j (omega arith) hs hj)
+  unfolding endCost
+  end-held = end-held-of P (opt P zs (length zs)) H hold
 
   least-end : held (leastEndAt P H) ≡ leastEnd P zs
-  unfolding leastEndAt leastEnd
-  least-end =
-      held-least (P .states) (λ s. minBelow (width P) (λ j. endAt P H s j))
-      ∙ least-ext (P .states) _ _ (λ s hs. held-least (width P) (λ j. endAt P H s j) ∙ least-ext (width P) _ _ (λ j hj. end-held s j hs hj))
+  unfolding leastEnd leastEndOf endCost
+  least-end = least-end-of P (opt P zs (length zs)) H hold
 
   pub end-none : noCost ≤ leastEndAt P H → answer P zs ≡ none
   unfolding answer
@@ -175,7 +191,7 @@ module _ (P : Plan) (zs : List ℤ) (ch : Checked P) (W : ℕ) (losses : (t : �
     walk-on n = walk-step P zs n t (node k s (P .lo +ℤ pos j)) e i step-is
 
     pub earlier-count : before-count e < counts
-    earlier-count = leads-count P zs ch W losses (suc t) (omega arith) H hold space e k s (meets .0)
+    earlier-count = leads-count P (suc t) e k s (meets .0)
 
     pub earlier-value : opt P zs (suc t) earlier ≡ some (offers e)
     earlier-value = sym (hold .at (before-count e) (edgeAt P e .from) i earlier-count (ch .edge e he .from-below) hi) ∙ ap held least ∙ some-held (offers e) (meets .1)

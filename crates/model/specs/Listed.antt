@@ -11,7 +11,7 @@ use lib.ListN.{length}
 use Rattle.plan.specs.declared.Plan.{Plan}
 use Rattle.plan.specs.declared.Label.{Label}
 use Rattle.model.specs.Segmentation.{Seg, first, next, readings, lastLevel}
-use Rattle.model.specs.Model.{edgeAt, labelAt, width, permits, inSet, onGrid, lastState, cost, need, changes, asked, order}
+use Rattle.model.specs.Model.{edgeAt, labelAt, width, permits, inSet, onGrid, lastState, cost, need, changes, asked, changeCount, order}
 
 -- ---- every segmentation of n readings
 
@@ -110,3 +110,13 @@ leastIn P zs (g ∷ gs) = some (lowest (cost P zs g) (leastIn P zs gs))
 -- the cost at a point
 unfoldable pub listedCost : Plan → List ℤ → ℕ → ℤ → Option ℕ
 listedCost P zs s m = leastIn P zs (keep (pointTest P (length zs) s m) (everySeg P (length zs)))
+
+-- ---- costs for each number of changes
+
+-- allowed of a whole record, with k changes
+unfoldable pub withTest : Plan → ℕ → ℕ → Seg → Bool
+withTest P n k g = wholeTest P n g && eqb (changeCount P g) k
+
+-- "the least cost among allowed whole-record segmentations with exactly k changes, penalties included" (02, ticket 5)
+unfoldable pub listedWith : Plan → List ℤ → ℕ → Option ℕ
+listedWith P zs k = leastIn P zs (keep (withTest P (length zs) k) (everySeg P (length zs)))

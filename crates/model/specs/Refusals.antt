@@ -1,5 +1,6 @@
--- The refusals of a search, of a cost at a point and of a moving window that come before they look at what they are lent: 0 where none applies. The
--- quoted words are those of the scope paper (01), "Refused because of the state", and of ticket 1 of the change requests (02). Assumes nothing.
+-- The refusals of a search, of a cost at a point, of a moving window and of the costs for each number of changes that come before they look at what they
+-- are lent: 0 where none applies. The quoted words are those of the scope paper (01), "Refused because of the state", and of tickets 1 and 5 of the change
+-- requests (02). Assumes nothing.
 use mathlib.Core.Bool.{Bool, false}
 use Prim.Native.Nat.{ℕ}
 use lib.Dec.{eqb, leb, ltb}
@@ -21,6 +22,10 @@ searchNumber P n = orElse (planNumber P) (pick (P .sealed) (pick (countOk n) (pi
 -- "Cost at a point: 11, 9, state 5, level 4, 14, 16."
 unfoldable pub pointNumber : Plan → ℕ → ℕ → ℤ → ℕ
 pointNumber P n s m = orElse (planNumber P) (pick (P .sealed) (pick (countOk n) (pick (ltb s (P .states)) (pick (onGrid P m) 0 4) 5) 9) 11)
+
+-- "Refusal 20 is K above 32, checked after 13 and before 14 (that workspace) and 15 (list too short)" (02, ticket 5)
+unfoldable pub tableNumber : Plan → ℕ → ℕ → ℕ
+tableNumber P n most = orElse (searchNumber P n) (pick (leb most 32) 0 20)
 
 -- "19 a w of 0, above 1,024 or above the record"
 unfoldable pub windowOk : ℕ → ℕ → Bool

@@ -35,7 +35,7 @@ use Rattle.model.specs.Labels.{labelOn, labelTest, countAfter, countBefo
 use Rattle.model.specs.Nodes.{node}
 use Rattle.model.specs.Opt.{opt}
 use Rattle.model.specs.Index.{noCost, some-held, edge-min, Permitted, permitted-yes}
-use Rattle.model.specs.Held.{penaltyMost, Table, Holding, raise, minBelow, min-met, fromCount, leadsAt, edgeLeast, byEdge, firstTable, nextTable, opt-low, next-most}
+use Rattle.model.specs.Held.{penaltyMost, Table, Holding, raise, minBelow, min-met, fromCount, leadsAt, edgeLeast, byEdge, firstTable, nextFrom, opt-low, next-most}
 use Rattle.model.specs.Runs.{walkBack, walk-few}
 use Rattle.model.specs.Ends.{endAt, leastEndAt, lossMost, losses-low, room, tableAt, table-holding, walk-on, earlier-count}
 
@@ -121,7 +121,7 @@ end-is P H s j low e = go (inSet (P .end) s) refl e
 -- ---- the layers
 
 module _ (P : Plan) (zs : List ℤ) (R : Ready P zs) where
-  losses : (t : ℕ) (m : ℤ) → onGrid P m ≡ true → lossAt zs t m ≤ lossMost
+  pub losses : (t : ℕ) (m : ℤ) → onGrid P m ≡ true → lossAt zs t m ≤ lossMost
   losses = losses-low P zs (R .lo-16) (R .hi-16) (R .readings-16)
 
   pub table-held : (t : ℕ) → 1 ≤ t → t ≤ 4096 → Holding P zs t (tableAt P zs t)
@@ -132,14 +132,18 @@ module _ (P : Plan) (zs : List ℤ) (R : Ready P zs) where
       → opt P zs t (node k s (P .lo +ℤ pos j)) ≡ some (tableAt P zs t k s j)
   value-held t k s j h l hk hs hj d = sym (table-held t h l .at k s j hk hs hj) ∙ some-held (tableAt P zs t k s j) d
 
-  table-most : (t k s j : ℕ) → 1 ≤ t → t ≤ 4096 → j < width P → tableAt P zs t k s j ≤ noCost
-  unfolding tableAt firstTable
-  table-most zero k s j h l hj = absurd (omega arith)
-  table-most (suc zero) k s j h l hj = go (inSet (P .start) s && eqb k 0)
+  pub first-most : (k s j : ℕ) → j < width P → firstTable P zs k s j ≤ noCost
+  unfolding firstTable
+  first-most k s j hj = go (inSet (P .start) s && eqb k 0)
     where
       go : (b : Bool) → cond b (lossAt zs 0 (P .lo +ℤ pos j)) noCost ≤ noCost
       go true = omega (arith, losses 0 (P .lo +ℤ pos j) (index-grid P (R .plan .grid) j hj))
       go false = omega arith
+
+  table-most : (t k s j : ℕ) → 1 ≤ t → t ≤ 4096 → j < width P → tableAt P zs t k s j ≤ noCost
+  unfolding tableAt
+  table-most zero k s j h l hj = absurd (omega arith)
+  table-most (suc zero) k s j h l hj = first-most k s j hj
   table-most (suc (suc t)) k s j h l hj =
       next-most P zs (R .plan) lossMost losses (suc t) (omega arith) (tableAt P zs (suc t)) (table-held (suc t) (omega arith) (omega arith)) (room (suc t) (omega arith)) k s j hj
 
@@ -172,7 +176,7 @@ module _ (P : Plan) (zs : List ℤ) (R : Ready P zs) where
         × (edgeLeast P (suc t) T k j e + (penaltyOf P e + lossAt zs (suc t) (P .lo +ℤ pos j)) ≡ tableAt P zs (suc (suc t)) k s j)
 
     pub some-edge : (e : ℕ) × (e < P .edgecount) × MeetsAt e
-    unfolding tableAt nextTable byEdge raise
+    unfolding tableAt nextFrom byEdge raise
     some-edge = outer (ltb m noCost) refl low
       where
         f : ℕ → ℕ

@@ -5,7 +5,7 @@ use Prim.Native.Nat.{ℕ, zero, suc, _+_, _-_}
 use lib.IntN.{ℤ}
 use lib.ListN.{length, take, drop}
 use Rattle.plan.specs.declared.Plan.{Plan}
-use Rattle.model.specs.Result.{Result, found, refused, whole, resultOf}
+use Rattle.model.specs.Result.{Result, found, refused, Costs, costList, noCosts, whole, resultOf}
 
 -- "each window is a part of the record that starts anywhere in it": the w readings after the first a
 abbrev pub partAt : List ℤ → ℕ → ℕ → List ℤ
@@ -14,11 +14,6 @@ partAt zs w a = take w (drop a zs)
 -- how many parts a record of n readings has, w of them at least
 abbrev pub starts : ℕ → ℕ → ℕ
 starts n w = n - w + 1
-
--- a cost for each part, or the number of a refusal
-pub data Costs : Type 0 where
-  costList : List ℕ → Costs
-  noCosts : ℕ → Costs
 
 -- the result of one part more; the first refusal stands
 abbrev pub andCost : Costs → Result → Costs

@@ -12,9 +12,9 @@ use lib.ListN.{length, getD, drop, length-append, length-drop, List·getD-append
 use lib.Seq.{length-take-le, getD-take, getD-drop, getD-append-seam}
 use Rattle.plan.specs.declared.Plan.{Plan}
 use Rattle.model.specs.Refusals.{searchNumber}
-use Rattle.model.specs.Result.{Result, found, refused, whole, resultOf}
+use Rattle.model.specs.Result.{Result, found, refused, whole, resultOf, Costs, costList, noCosts}
 use Rattle.model.specs.Demand3.{NoneAllowed, demand3}
-use Rattle.model.specs.Window.{Costs, costList, noCosts, andCost, partAt, costsTo}
+use Rattle.model.specs.Window.{andCost, partAt, costsTo}
 
 -- ---- a part of the record
 

@@ -18,7 +18,8 @@ use Rattle.model.specs.Ends.{tableAt}
 use Rattle.curve.specs.Pieces.{Held}
 use Rattle.curve.specs.Lists.{count-most, count-same}
 use Rattle.curve.specs.Curve.{Curve, curve-same}
-use Rattle.layer.specs.Layer.{stepMost, baseOf, listAt, layerWords, Layer}
+use Rattle.model.specs.Held.{Table}
+use Rattle.layer.specs.Layer.{stepMost, baseOf, listAt, LayerOf, Layer}
 use Rattle.layer.proofs.Next.{list-within}
 use Rattle.saved.specs.Packed.{Chain, Inside, Row, Packing, Unpacked}
 use Rattle.saved.specs.Walk.{mostSlots, tableSize, stackAt, limit, Packed, Entry, Stack, timeOf, offOf, Pushed, Dropped}
@@ -47,28 +48,20 @@ pushed T n t e z h = record {
 list-number : (n S k s : ℕ) → k < n → s < S → k * S + s < n * S
 list-number n S k s hk hs = omega (arith, mul-le-mul-right S hk)
 
+-- its lists in their order
+pub layer-row : {P : Plan} {t : ℕ} {H : Table} {ws : List ℕ} {o : ℕ} → Checked P → LayerOf P t H ws o → Row ws o (usedAt P t * P .states) (width P)
+unfolding listAt
+layer-row {P} {t} {H} {ws} {o} ch y = record {
+  list = λ q g.
+      let e : q / P .states * P .states + q % P .states ≡ q = div-add-mod' q (P .states) in
+      let m : q % P .states < P .states = mod-lt q (ch .some-states) in
+      let k : q / P .states < usedAt P t = ⊎-elim (λ p. absurd (omega (arith, mul-le-mul-right (P .states) p))) (λ p. p) (le-or-lt (usedAt P t) (q / P .states)) in
+      subst (λ (x : ℕ). Held ws (o + x * (4 * width P)) (width P)) e (y .list (q / P .states) (q % P .states) k m .held);
+  few = omega (arith, mul-le-mul (used-most (labelOn P t)) (ch .few-states));
+  narrow = ch .narrow;
+}
+
 module _ {P : Plan} {zs : List ℤ} {t : ℕ} where
-  pub layer-same : {ws ws′ : List ℕ} {o : ℕ} → Checked P → length ws′ ≡ length ws → ((i : ℕ) → o ≤ i → i < o + layerWords P → getD ws′ i 0 ≡ getD ws i 0) → Layer P zs t ws o → Layer P zs t ws′ o
-  layer-same {o = o} ch e f y = record {
-    list = λ k s hk hs.
-        let b = list-within o (P .states) (width P) k s (omega (arith, used-most (labelOn P t))) hs in
-        let c = y .list k s hk hs in
-        curve-same e c (record { word = λ i u v. f i (omega arith) (omega (arith, count-most (c .held .formed))) });
-  }
-
-  -- its lists in their order
-  pub layer-row : {ws : List ℕ} {o : ℕ} → Checked P → Layer P zs t ws o → Row ws o (usedAt P t * P .states) (width P)
-  unfolding listAt
-  layer-row {ws} {o} ch y = record {
-    list = λ q g.
-        let e : q / P .states * P .states + q % P .states ≡ q = div-add-mod' q (P .states) in
-        let m : q % P .states < P .states = mod-lt q (ch .some-states) in
-        let k : q / P .states < usedAt P t = ⊎-elim (λ p. absurd (omega (arith, mul-le-mul-right (P .states) p))) (λ p. p) (le-or-lt (usedAt P t) (q / P .states)) in
-        subst (λ (x : ℕ). Held ws (o + x * (4 * width P)) (width P)) e (y .list (q / P .states) (q % P .states) k m .held);
-    few = omega (arith, mul-le-mul (used-most (labelOn P t)) (ch .few-states));
-    narrow = ch .narrow;
-  }
-
   pub layer-packed : {ws ws′ : List ℕ} {o a e : ℕ} → Layer P zs t ws o → Packing ws ws′ o a e (usedAt P t * P .states) (width P) → Packed P zs t ws′ a e
   unfolding listAt
   layer-packed y p = record {

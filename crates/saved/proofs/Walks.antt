@@ -13,16 +13,20 @@ use Rattle.plan.specs.declared.Plan.{Plan}
 use Rattle.model.specs.Model.{width}
 use Rattle.model.specs.Checked.{Checked}
 use Rattle.model.specs.Labels.{labelOn, counts, usedAt, used-most}
+use Rattle.model.specs.Held.{Table, firstTable, nextTable}
+use Rattle.model.specs.Ends.{tableAt}
 use Rattle.layer.specs.declared.Shape.{Shape}
-use Rattle.layer.specs.Layer.{tempWords, placeMost, layerCell, layerWords, ShapeOf, Layer}
-use Rattle.layer.specs.Next.{StepReady, Stepped, StartReady}
+use Rattle.layer.specs.Layer.{tempWords, placeMost, layerCell, layerWords, ShapeOf, LayerOf, Layer, Sources}
+use Rattle.layer.proofs.Next.{table-next}
+use Rattle.layer.proofs.Lists.{layer-same}
+use Rattle.layer.specs.Next.{Aside, StepReady, Stepped, StartReady}
 use Rattle.saved.specs.declared.Walk.{Walk}
 use Rattle.saved.specs.declared.Room.{Room}
 use Rattle.saved.specs.declared.Room.the-variants.{Upto}
 use Rattle.saved.specs.Packed.{Inside, Row, PackReady, Packing, Saves, UnpackReady, Unpacked}
 use Rattle.saved.specs.Walk.{mostSlots, tableSize, freeCell, limitCell, stackAt, limit, Places, Entry, Stack, timeOf, offOf, At, Workspace, Walked, Reached, Pushed, Dropped, Restarted, Stops}
 use Rattle.saved.proofs.Chains.{inside-wider, inside-then}
-use Rattle.saved.proofs.Stacks.{layer-same, layer-row, layer-packed, packed-layer, off-low, off-high, stack-same, stack-kept, stack-pushed, stack-empty}
+use Rattle.saved.proofs.Stacks.{layer-row, layer-packed, packed-layer, off-low, off-high, stack-same, stack-kept, stack-pushed, stack-empty}
 
 -- how many lists a layer has
 pub lists-are : {P : Plan} {g : Shape} (t n : ℕ) → Checked P → ShapeOf P g → n ≡ usedAt P t → n ≤ counts → (n * g .states ≡ usedAt P t * P .states) × (n * g .states ≤ 8 * counts)
@@ -58,7 +62,7 @@ module _ {P : Plan} {zs : List ℤ} {g : Shape} {ws : List ℕ} (a : Workspace P
   layers-low = ⊎-elim (λ p. (omega arith, omega arith)) (λ p. (omega arith, omega arith))
 
   -- no word from the stack on is touched
-  above-layers : {x t o : ℕ} {ws′ : List ℕ} → x ≡ g .states * g .levels → o + layerWords P ≤ freeCell * (P .states * width P) → Stepped P zs t o (freeCell * x) ws ws′ → (i : ℕ) → stackAt P ≤ i → getD ws′ i 0 ≡ getD ws i 0
+  above-layers : {x t o : ℕ} {H : Table} {ws′ : List ℕ} → x ≡ g .states * g .levels → o + layerWords P ≤ freeCell * (P .states * width P) → Stepped P t H o (freeCell * x) ws ws′ → (i : ℕ) → stackAt P ≤ i → getD ws′ i 0 ≡ getD ws i 0
   above-layers e h m i p = m .word i (inr (omega arith)) (inr (omega (arith, area-is e)))
 
   within : {ws′ : List ℕ} → length ws′ ≡ length ws → ((i : ℕ) → stackAt P ≤ i → getD ws′ i 0 ≡ getD ws i 0) → Inside 0 (stackAt P) ws ws′
@@ -90,7 +94,8 @@ module _ {P : Plan} {zs : List ℤ} {g : Shape} {ws : List ℕ} (a : Workspace P
       place = omega (arith, area-is e, small);
     }
 
-    pub restarted-first : {x n : ℕ} {T ws′ : List ℕ} → x ≡ g .states * g .levels → n ≡ 0 → Stepped P zs 1 cur (freeCell * x) ws ws′ → Restarted P zs n T ws ws′ (record { time = 1; cur = cur; other = other; count = n })
+    pub restarted-first : {x n : ℕ} {T ws′ : List ℕ} → x ≡ g .states * g .levels → n ≡ 0 → Stepped P 1 (firstTable P zs) cur (freeCell * x) ws ws′ → Restarted P zs n T ws ws′ (record { time = 1; cur = cur; other = other; count = n })
+    unfolding tableAt
     restarted-first e h m = record {
       at = record { some = omega arith; most = a .some; places = places; layer = m .layer };
       count = refl;
@@ -132,27 +137,34 @@ module _ {P : Plan} {zs : List ℤ} {g : Shape} {ws : List ℕ} (a : Workspace P
   -- ---- one reading further
 
   module _ {w : Walk} (p : At P zs w ws) where
-    pub step-ready : {x : ℕ} → x ≡ g .states * g .levels → w .time < length zs → StepReady P zs (w .time) (w .cur) (w .other) (freeCell * x) g ws
+    -- stays and changes come from the same layer
+    pub sources : Sources P (w .time) (λ c. tableAt P zs (w .time)) ws (w .cur) (w .cur)
+    sources = record { stays = p .layer; changes = p .layer }
+
+    aside : {x : ℕ} → x ≡ g .states * g .levels → Aside P (w .cur) (w .other) (freeCell * x)
+    aside e = record { apart = ⊎-elim (λ q. inl (omega arith)) (λ q. inr (omega arith)) (p .places); below = omega (arith, area-is e, layers-low (p .places)) }
+
+    pub step-ready : {x : ℕ} → x ≡ g .states * g .levels → w .time < length zs → StepReady P zs (w .time) (w .cur) (w .cur) (w .other) (freeCell * x) g ws
     step-ready e h = record {
       task = a .task;
-      some = p .some;
       more = h;
-      layer = p .layer;
-      apart = ⊎-elim (λ q. inl (omega arith)) (λ q. inr (omega arith)) (p .places);
-      below = omega (arith, area-is e, layers-low (p .places));
+      tables = λ c. tableAt P zs (w .time);
+      sources = sources;
+      stays = aside e;
+      changes = aside e;
       under = omega (arith, area-is e, layers-low (p .places));
       room = omega (arith, area-is e, stack-fits, a .room);
       place = omega (arith, area-is e, small);
     }
 
-    pub stepped-on : {x : ℕ} {ws′ : List ℕ} → x ≡ g .states * g .levels → w .time < length zs → Stepped P zs (suc (w .time)) (w .other) (freeCell * x) ws ws′
+    pub stepped-on : {x : ℕ} {ws′ : List ℕ} → x ≡ g .states * g .levels → w .time < length zs → Stepped P (suc (w .time)) (nextTable P zs (w .time) (tableAt P zs (w .time))) (w .other) (freeCell * x) ws ws′
         → Reached P zs (w .time + 1) (w .count) ws ws′ (record { time = w .time + 1; cur = w .other; other = w .cur; count = w .count })
     stepped-on {x} {ws′} e h m = record {
       at = record {
         some = omega arith;
         most = omega arith;
         places = ⊎-elim (λ q. inr (q .1, q .0)) (λ q. inl (q .1, q .0)) (p .places);
-        layer = subst (λ (t : ℕ). Layer P zs t ws′ (w .other)) (sym (add-one (w .time))) (m .layer);
+        layer = subst (λ (t : ℕ). Layer P zs t ws′ (w .other)) (sym (add-one (w .time))) (subst (λ (H : Table). LayerOf P (suc (w .time)) H ws′ (w .other)) (table-next P zs (w .time) (p .some)) (m .layer));
       };
       count = refl;
       time = refl;
@@ -196,7 +208,7 @@ module _ {P : Plan} {zs : List ℤ} {g : Shape} {ws : List ℕ} (a : Workspace P
 
           -- what was there is still there
           still-layer : Layer P zs (w .time) ws′ (w .cur)
-          still-layer = layer-same (a .task .ready .plan) (m .inside .size) (λ i u v. m .inside .word i (inl (omega (arith, layers-low (p .places), off-low k (w .count) (omega arith))))) (p .layer)
+          still-layer = layer-same (m .inside .size) (λ i u v. m .inside .word i (inl (omega (arith, layers-low (p .places), off-low k (w .count) (omega arith))))) (p .layer)
 
           still-stack : Stack P zs (w .count) T ws′
           still-stack = stack-same k (m .inside .size) (λ i u v. m .inside .word i (inl v))

@@ -3,6 +3,7 @@
 //
 // The words of the workspace, with S states and L levels: two layers, from 0 and from LAYER_WORDS · S · L; the three temporary lists, from
 // FREE_AT · S · L; and the stack of saved layers, from TEMP_WORDS · L after that up to ALL_WORDS · S · L.
+use layer::Origin;
 use layer::Shape;
 use plan::Plan;
 ghost use mathlib.Core.Path.{_≡_};
@@ -271,7 +272,11 @@ fn forward(
     let mut cur = walk.cur;
     let mut other = walk.other;
     while time < x {
-        layer::next_layer(ws, plan, code, readings, time, cur, other, free, g);
+        let from = Origin {
+            stays: cur,
+            changes: cur,
+        };
+        layer::next_layer(ws, plan, code, readings, time, from, other, free, g);
         let last = cur;
         cur = other;
         other = last;

@@ -10,7 +10,8 @@ use borrow.Author.Tests.{ne-eqb}
 use Rattle.plan.specs.declared.Plan.{Plan}
 use Rattle.model.specs.Refusals.{windowNumber}
 use Rattle.model.specs.Checked.{AcceptedWindow, accepted-window, window-not-16}
-use Rattle.model.specs.Window.{Costs, noCosts, starts, windowsOf}
+use Rattle.model.specs.Result.{Costs, noCosts}
+use Rattle.model.specs.Window.{starts, windowsOf}
 use Rattle.layer.specs.declared.Shape.{Shape}
 use Rattle.layer.specs.Layer.{ShapeOf}
 use Rattle.saved.specs.Walk.{limitCell}

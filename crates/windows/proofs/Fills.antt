@@ -11,8 +11,8 @@ use Rattle.plan.specs.declared.Plan.{Plan}
 use Rattle.model.specs.Refusals.{searchNumber}
 use Rattle.model.specs.Index.{noCost}
 use Rattle.model.specs.Tables.{ready-search}
-use Rattle.model.specs.Result.{found, refused, whole, resultOf}
-use Rattle.model.specs.Window.{Costs, costList, noCosts, partAt, starts, costsTo, windowsOf}
+use Rattle.model.specs.Result.{found, refused, whole, resultOf, Costs, costList, noCosts}
+use Rattle.model.specs.Window.{partAt, starts, costsTo, windowsOf}
 use Rattle.model.specs.WindowLaws.{part-length, part-reading, costs-none, costs-more, costs-refused, parts-alike}
 use Rattle.layer.specs.declared.Shape.{Shape}
 use Rattle.saved.specs.Packed.{Inside}

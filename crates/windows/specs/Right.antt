@@ -14,9 +14,9 @@ use Rattle.model.specs.Segmentation.{Seg}
 use Rattle.model.specs.Model.{cost, First}
 use Rattle.model.specs.Refusals.{windowNumber}
 use Rattle.model.specs.Checked.{AcceptedWindow, accepted-window, window-not-16}
-use Rattle.model.specs.Result.{found, refused, whole, resultOf}
+use Rattle.model.specs.Result.{found, refused, whole, resultOf, Costs, costList, noCosts}
 use Rattle.model.specs.Demand3.{NoneAllowed, demand3}
-use Rattle.model.specs.Window.{Costs, costList, noCosts, partAt, starts, windowsOf, costsTo}
+use Rattle.model.specs.Window.{partAt, starts, windowsOf, costsTo}
 use Rattle.model.specs.WindowLaws.{Each, part-length, costs-each, costs-refused, at-none, costs-else}
 use Rattle.search.specs.Lent.{lent-early, lent-short, lent-narrow, lent-looks, lent-found}
 use Rattle.search.specs.Search.{workWords, searchResult}

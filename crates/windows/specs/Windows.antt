@@ -8,7 +8,8 @@ use lib.IntN.{ℤ}
 use lib.ListN.{length, take, drop}
 use Rattle.plan.specs.declared.Plan.{Plan}
 use Rattle.model.specs.Refusals.{windowNumber}
-use Rattle.model.specs.Window.{Costs, costList, noCosts, starts, windowsOf}
+use Rattle.model.specs.Result.{Costs, costList, noCosts}
+use Rattle.model.specs.Window.{starts, windowsOf}
 use Rattle.search.specs.Lent.{lent}
 use Rattle.search.specs.Search.{workWords, wordsLeft}
 use Rattle.windows.specs.declared.Filled.{Filled}

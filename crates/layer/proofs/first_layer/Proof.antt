@@ -2,8 +2,9 @@ use Rattle.layer.proofs.Lists.{no-lists, still-start, counts-more, step
 use Rattle.layer.specs.Next.{Lists, Counts}
 use native.Mathlib.Omega.{arith}
 use Prim.Native.Nat.{ℕ, suc, _+_, _-_, _≤_}
-use Rattle.labels.proofs.counts_at.Reads as counts-at-reads
+use Rattle.model.specs.Held.{firstTable}
 use borrow.Author.Needs.{needs}
+use Rattle.labels.proofs.counts_at.Reads as counts-at-reads
 use Rattle.layer.proofs.first_layer.Statement.{statement}
 use Rattle.layer.proofs.first_layer.Tie as tie
 use Rattle.layer.proofs.first_layer.Reads as reads
@@ -11,7 +12,7 @@ use Rattle.layer.proofs.first_layer.Lts as lts
 use Rattle.layer.proofs.first_count.Reads as first-count-reads
 
 abbrev Inv-loop : tie.InvT-loop
-Inv-loop ws₀ plan code readings o free g n k₀ ws k = (k ≤ n) × Lists (Counts plan k) plan readings 1 o free ws₀ ws
+Inv-loop ws₀ plan code readings o free g n k₀ ws k = (k ≤ n) × Lists (Counts plan k) plan 1 (firstTable plan readings) o free ws₀ ws
 
 abbrev μ-loop : tie.MeasureT-loop
 μ-loop ws₀ plan code readings o free g n k₀ ws k = n - k

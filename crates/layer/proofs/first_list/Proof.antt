@@ -11,31 +11,24 @@ use Rattle.integers.proofs.bias.Reads as bias-reads
 use Rattle.edges.proofs.add_reading.Reads as add-reading-reads
 use Rattle.layer.proofs.first_cost.Reads as first-cost-reads
 
--- src/lib.rt:191:9
 first-cost-requires : tie.Need-first-cost-requires
 first-cost-requires c κs = search needs
 
--- src/lib.rt:192:5
 constant-requires : tie.Need-constant-requires
 constant-requires c κs = search needs
 
--- src/lib.rt:193:28
 shared-slice-copy-out-bias : tie.Need-shared-slice-copy-out-bias
 shared-slice-copy-out-bias c = search needs
 
--- src/lib.rt:193:9
 bias-requires : tie.Need-bias-requires
 bias-requires c κs = search needs
 
--- src/lib.rt:194:5
 add-reading-requires : tie.Need-add-reading-requires
 add-reading-requires c κs = first-ready (c .before .before .before .before .before .before .before .before .before .pre) _ (c .before .before .before .before .before .before .before .first-cost .ensures) (c .before .before .before .before .before .constant .ensures) (c .before .bias .ensures .1)
 
--- src/lib.rt:185:1
 same-length : tie.Need-same-length
 same-length c = search needs
 
--- src/lib.rt:185:1
 returns : tie.Need-returns
 returns c = first-made (c .before .before .before .before .before .before .before .before .before .before .before .before .pre) _ (c .before .before .before .before .before .before .before .before .before .before .first-cost .ensures) (c .before .before .before .before .before .before .before .before .constant .ensures) _ (reading-is (getD (c .before .before .before .before .before .before .before .before .before .before .before .before .args .readings .now) 0 (pos 0)) _ (c .before .before .before .before .before .bias-arg .given) (c .before .before .before .before .bias .ensures .0)) (c .before .before .add-reading .ensures)
 

@@ -1,4 +1,3 @@
--- `layer::next_list`: the least over the edges, and the loss. Assumes nothing.
 use Rattle.layer.proofs.Next.{reading-is, edges-ready, reading-ready, next-list}
 use lib.ListN.{getD}
 use lib.IntN.{pos}
@@ -12,51 +11,39 @@ use Rattle.integers.proofs.bias.Reads as bias-reads
 use Rattle.edges.proofs.add_reading.Reads as add-reading-reads
 use Rattle.layer.proofs.take_edges.Reads as take-edges-reads
 
--- src/lib.rt:125:16
 mul-size : tie.Need-mul-size
 mul-size c = search needs
 
--- src/lib.rt:126:18
 add-second : tie.Need-add-second
 add-second c = search needs
 
--- src/lib.rt:127:23
 mul-work : tie.Need-mul-work
 mul-work c = search needs
 
--- src/lib.rt:127:16
 add-work : tie.Need-add-work
 add-work c = search needs
 
--- src/lib.rt:128:5
 constant-requires : tie.Need-constant-requires
 constant-requires c κs = search needs
 
--- src/lib.rt:129:9
 take-edges-requires : tie.Need-take-edges-requires
 take-edges-requires c κs = (edges-ready (c .before .before .before .before .before .before .before .pre .0) (c .before .before .before .constant .ensures), c .before .before .before .before .before .before .before .pre .1)
 
--- src/lib.rt:130:28
 mul-bias : tie.Need-mul-bias
 mul-bias c = search needs
 
--- src/lib.rt:130:28
 shared-slice-copy-out-bias : tie.Need-shared-slice-copy-out-bias
 shared-slice-copy-out-bias c = search needs
 
--- src/lib.rt:130:9
 bias-requires : tie.Need-bias-requires
 bias-requires c κs = search needs
 
--- src/lib.rt:131:5
 add-reading-requires : tie.Need-add-reading-requires
 add-reading-requires c κs = reading-ready (c .before .before .before .before .before .before .before .before .before .before .before .before .before .pre .0) (c .before .before .before .before .before .before .before .before .before .constant .ensures) (c .before .before .before .before .before .take-edges .ensures) (c .before .bias .ensures .1)
 
--- src/lib.rt:105:1
 same-length : tie.Need-same-length
 same-length c = search needs
 
--- src/lib.rt:105:1
 returns : tie.Need-returns
 returns c = next-list (c .before .before .before .before .before .before .before .before .before .before .before .before .before .before .before .before .pre .0) (c .before .before .before .before .before .before .before .before .before .before .before .before .constant .ensures) (c .before .before .before .before .before .before .before .before .take-edges .ensures) _ (reading-is (getD (c .before .before .before .before .before .before .before .before .before .before .before .before .before .before .before .before .args .readings .now) (c .before .before .before .before .before .before .before .before .before .before .before .before .before .before .before .before .args .t) (pos 0)) _ (c .before .before .before .before .before .bias-arg .given) (c .before .before .before .before .bias .ensures .0)) (c .before .before .add-reading .ensures)
 

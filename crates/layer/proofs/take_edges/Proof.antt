@@ -7,7 +7,7 @@ use Rattle.plan.specs.declared.Plan.{Plan}
 use native.Mathlib.Omega.{arith}
 use Prim.Native.Nat.{ℕ, _-_, _≤_, _<_}
 use mathlib.Core.Logic.{⊎-elim}
-use mathlib.Core.Path.{sym, _∙_}
+use mathlib.Core.Path.{refl, sym, _∙_}
 use borrow.Author.Needs.{needs}
 use Rattle.layer.proofs.take_edges.Statement.{statement}
 use Rattle.layer.proofs.take_edges.Tie as tie
@@ -18,60 +18,50 @@ use Rattle.labels.proofs.leads.Reads as leads-reads
 use Rattle.layer.proofs.take_one.Reads as take-one-reads
 
 abbrev Inv-loop : tie.InvT-loop
-Inv-loop ws₀ first second work code on t cur k s g n acc₀ i₀ ws acc i = (i ≤ n) × ((P : Plan) → Coded P code → EdgesReady (labelOf on) t (P .edges) n k s cur g first second work ws₀ → TookEdges (labelOf on) t (P .edges) i k s cur g ws₀ ws first second work acc)
+Inv-loop ws₀ first second work code on t from k s g n acc₀ i₀ ws acc i = (i ≤ n) × ((P : Plan) → Coded P code → EdgesReady (labelOf on) t (P .edges) n k s (from .stays) (from .changes) g first second work ws₀ → TookEdges (labelOf on) t (P .edges) i k s (from .stays) (from .changes) g ws₀ ws first second work acc)
 
 abbrev μ-loop : tie.MeasureT-loop
-μ-loop ws₀ first second work code on t cur k s g n acc₀ i₀ ws acc i = n - i
+μ-loop ws₀ first second work code on t from k s g n acc₀ i₀ ws acc i = n - i
 
--- src/lib.rt:91:5
 loop-holds : tie.Need-loop-holds Inv-loop μ-loop
-loop-holds c = (omega arith, λ P h r. took-none _ _ _ _ _ _ _ _ _ _ _)
+loop-holds c = (omega arith, λ P h r. took-none _ _ _ _ _ _ _ _ _ _ _ _)
 
--- src/lib.rt:92:13
 edge-in-requires : tie.Need-edge-in-requires Inv-loop μ-loop
 edge-in-requires c κs = omega (arith, c .loop-test .taken, c .before .before .before .before .pre .0 .few, c .before .before .before .before .pre .1 .front .size)
 
--- src/lib.rt:93:9
 add-i : tie.Need-add-i Inv-loop μ-loop
 add-i c = omega (arith, c .before .before .before .before .before .pre .0 .few, c .before .loop-test .taken)
 
--- src/lib.rt:94:12
 leads-requires : tie.Need-leads-requires Inv-loop μ-loop
 leads-requires c κs = (c .before .before .before .before .before .pre .0 .boundary, omega (arith, c .before .before .before .before .before .pre .0 .count))
 
--- src/lib.rt:96:24
 add-next : tie.Need-add-next Inv-loop μ-loop
 add-next c = let h = c .before .before .before .before .before .before .before .pre .0 .hand (c .before .before .before .before .loop .i) (c .before .before .before .loop-test .taken) (leads-as _ _ _ _ (edge-got (c .before .before .before .before .before .before .before .args .plan) (c .before .before .before .before .loop .i) _ (c .before .before .before .before .before .before .before .pre .1) (omega (arith, c .before .before .before .loop-test .taken, c .before .before .before .before .before .before .before .pre .0 .few)) (c .before .before .edge-in .ensures)) (c .before .leads .ensures) (c .if1 .taken)) in omega (arith, h .room-acc, h .into .room-next, c .before .before .before .before .before .before .before .good .0 .1)
 
--- src/lib.rt:96:24
 sub-next : tie.Need-sub-next Inv-loop μ-loop
 sub-next c = ⊎-elim (λ e. omega arith) (λ e. omega arith) (c .before .before .before .before .loop .inv .1 (c .before .before .before .before .before .before .before .args .plan) (c .before .before .before .before .before .before .before .pre .1) (c .before .before .before .before .before .before .before .pre .0) .place)
 
--- src/lib.rt:97:13
+source-layer-requires : tie.Need-source-layer-requires Inv-loop μ-loop
+source-layer-requires c κs = search needs
+
 take-one-requires : tie.Need-take-one-requires Inv-loop μ-loop
-take-one-requires c κs = (may-take-as (edge-got (c .before .before .before .before .before .before .before .before .args .plan) (c .before .before .before .before .before .loop .i) _ (c .before .before .before .before .before .before .before .before .pre .1) (omega (arith, c .before .before .before .before .loop-test .taken, c .before .before .before .before .before .before .before .before .pre .0 .few)) (c .before .before .before .edge-in .ensures)) (may-take _ _ _ _ _ _ _ (c .before .before .before .before .before .before .before .before .pre .0) (c .before .before .before .before .loop-test .taken) (c .before .before .before .before .before .loop .inv .1 (c .before .before .before .before .before .before .before .before .args .plan) (c .before .before .before .before .before .before .before .before .pre .1) (c .before .before .before .before .before .before .before .before .pre .0))), sym (c .before .before .leads .ensures) ∙ c .before .if1 .taken)
+take-one-requires c κs = (may-take-as _ _ (edge-got (c .before .before .before .before .before .before .before .before .before .args .plan) (c .before .before .before .before .before .before .loop .i) _ (c .before .before .before .before .before .before .before .before .before .pre .1) (omega (arith, c .before .before .before .before .before .loop-test .taken, c .before .before .before .before .before .before .before .before .before .pre .0 .few)) (c .before .before .before .before .edge-in .ensures)) (c .before .source-layer .ensures) (may-take _ _ _ _ _ _ _ _ (c .before .before .before .before .before .before .before .before .before .pre .0) (c .before .before .before .before .before .loop-test .taken) (c .before .before .before .before .before .before .loop .inv .1 (c .before .before .before .before .before .before .before .before .before .args .plan) (c .before .before .before .before .before .before .before .before .before .pre .1) (c .before .before .before .before .before .before .before .before .before .pre .0))), sym (c .before .before .before .leads .ensures) ∙ c .before .before .if1 .taken)
 
--- src/lib.rt:91:5
 loop-less : tie.Need-loop-less Inv-loop μ-loop
-loop-less c = omega (arith, c .before .before .before .before .before .before .before .loop-test .taken)
+loop-less c = omega (arith, c .before .before .before .before .before .before .before .before .loop-test .taken)
 
--- src/lib.rt:91:5
 loop-again : tie.Need-loop-again Inv-loop μ-loop
-loop-again c = (omega (arith, c .before .before .before .before .before .before .before .loop-test .taken), λ P h r. took-more _ _ _ _ _ _ _ r (c .before .before .before .before .before .before .before .loop-test .taken) (c .before .before .before .before .before .before .before .before .loop .inv .1 P h r) (took-as (edge-got P (c .before .before .before .before .before .before .before .before .loop .i) _ h (omega (arith, c .before .before .before .before .before .before .before .loop-test .taken, r .few)) (c .before .before .before .before .before .before .edge-in .ensures)) (c .before .before .take-one .ensures)))
+loop-again c = (omega (arith, c .before .before .before .before .before .before .before .before .loop-test .taken), λ P h r. took-more _ _ _ _ _ _ _ _ r (c .before .before .before .before .before .before .before .before .loop-test .taken) (c .before .before .before .before .before .before .before .before .before .loop .inv .1 P h r) (took-as _ _ (edge-got P (c .before .before .before .before .before .before .before .before .before .loop .i) _ h (omega (arith, c .before .before .before .before .before .before .before .before .loop-test .taken, r .few)) (c .before .before .before .before .before .before .before .edge-in .ensures)) (c .before .before .before .before .source-layer .ensures) (c .before .before .take-one .ensures)))
 
--- src/lib.rt:91:5
 loop-less-2 : tie.Need-loop-less-2 Inv-loop μ-loop
 loop-less-2 c = omega (arith, c .before .before .before .loop-test .taken)
 
--- src/lib.rt:91:5
 loop-again-2 : tie.Need-loop-again-2 Inv-loop μ-loop
-loop-again-2 c = (omega (arith, c .before .before .before .loop-test .taken), λ P h r. took-more _ _ _ _ _ _ _ r (c .before .before .before .loop-test .taken) (c .before .before .before .before .loop .inv .1 P h r) (took-as (edge-got P (c .before .before .before .before .loop .i) _ h (omega (arith, c .before .before .before .loop-test .taken, r .few)) (c .before .before .edge-in .ensures)) (took-not _ _ _ _ _ _ _ _ _ _ _ (sym (c .before .leads .ensures) ∙ c .if1 .left))))
+loop-again-2 c = (omega (arith, c .before .before .before .loop-test .taken), λ P h r. took-more _ _ _ _ _ _ _ _ r (c .before .before .before .loop-test .taken) (c .before .before .before .before .loop .inv .1 P h r) (took-as _ _ (edge-got P (c .before .before .before .before .loop .i) _ h (omega (arith, c .before .before .before .loop-test .taken, r .few)) (c .before .before .edge-in .ensures)) refl (took-not _ _ _ _ _ _ _ _ _ _ _ (sym (c .before .leads .ensures) ∙ c .if1 .left))))
 
--- src/lib.rt:70:1
 same-length : tie.Need-same-length Inv-loop μ-loop
 same-length c = c .before .loop .inv .1 (c .before .before .before .before .args .plan) (c .before .before .before .before .pre .1) (c .before .before .before .before .pre .0) .spared .size
 
--- src/lib.rt:70:1
 returns : tie.Need-returns Inv-loop μ-loop
 returns c = took-all (omega (arith, c .loop-test .left, c .before .loop .inv .0)) (c .before .loop .inv .1 (c .before .before .before .before .args .plan) (c .before .before .before .before .pre .1) (c .before .before .before .before .pre .0))
 
@@ -87,6 +77,7 @@ take-edges-spec =
     leads-requires
     add-next
     sub-next
+    source-layer-requires
     take-one-requires
     loop-less
     loop-again

@@ -1,5 +1,5 @@
 use Rattle.saved.proofs.Chains.{inside-refl, inside-then}
-use Rattle.saved.proofs.Walks.{space-then, step-ready, stepped-on}
+use Rattle.saved.proofs.Walks.{space-then, sources, step-ready, stepped-on}
 use Rattle.saved.specs.Packed.{Inside}
 use Rattle.saved.specs.Walk.{stackAt, At}
 use Rattle.layer.proofs.Next.{shape-small}
@@ -20,40 +20,31 @@ Inv-loop ws₀ plan code readings g x free count time₀ cur₀ other₀ ws time
 abbrev μ-loop : tie.MeasureT-loop
 μ-loop ws₀ plan code readings g x free count time₀ cur₀ other₀ ws time cur other = x - time
 
--- src/lib.rt:227:21
 area-requires : tie.Need-area-requires Inv-loop μ-loop
 area-requires c κs = shape-small (c .before .before .pre .0 .space .task)
 
--- src/lib.rt:227:16
 mul-free : tie.Need-mul-free Inv-loop μ-loop
 mul-free c = omega (arith, c .area .ensures)
 
--- src/lib.rt:232:5
 loop-holds : tie.Need-loop-holds Inv-loop μ-loop
 loop-holds c = (c .before .before .before .pre .0 .from, (c .before .before .before .pre .0 .at, inside-refl _ _ _))
 
--- src/lib.rt:233:9
 next-layer-requires : tie.Need-next-layer-requires Inv-loop μ-loop
 next-layer-requires c κs = (step-ready (space-then (c .before .before .before .before .before .before .pre .0 .space) (c .before .before .loop .inv .1 .1 .size)) (c .before .before .loop .inv .1 .0) (c .before .before .before .area .ensures .0) (omega (arith, c .before .loop-test .taken, c .before .before .before .before .before .before .pre .0 .most)), c .before .before .before .before .before .before .pre .1)
 
--- src/lib.rt:237:9
 add-time : tie.Need-add-time Inv-loop μ-loop
 add-time c = omega (arith, c .before .before .before .before .loop-test .taken, c .before .before .before .before .before .before .before .before .before .pre .0 .most, c .before .before .before .before .before .before .before .before .before .pre .0 .space .task .ready .few-readings)
 
--- src/lib.rt:232:5
 loop-less : tie.Need-loop-less Inv-loop μ-loop
 loop-less c = omega (arith, c .before .before .before .before .loop-test .taken)
 
--- src/lib.rt:232:5
 loop-again : tie.Need-loop-again Inv-loop μ-loop
-loop-again c = let s = stepped-on (space-then (c .before .before .before .before .before .before .before .before .before .pre .0 .space) (c .before .before .before .before .before .loop .inv .1 .1 .size)) (c .before .before .before .before .before .loop .inv .1 .0) (c .before .before .before .before .before .before .area .ensures .0) (omega (arith, c .before .before .before .before .loop-test .taken, c .before .before .before .before .before .before .before .before .before .pre .0 .most)) (c .before .before .next-layer .ensures) in
+loop-again c = let s = stepped-on (space-then (c .before .before .before .before .before .before .before .before .before .pre .0 .space) (c .before .before .before .before .before .loop .inv .1 .1 .size)) (c .before .before .before .before .before .loop .inv .1 .0) (c .before .before .before .before .before .before .area .ensures .0) (omega (arith, c .before .before .before .before .loop-test .taken, c .before .before .before .before .before .before .before .before .before .pre .0 .most)) (c .before .before .next-layer .ensures _ (sources (space-then (c .before .before .before .before .before .before .before .before .before .pre .0 .space) (c .before .before .before .before .before .loop .inv .1 .1 .size)) (c .before .before .before .before .before .loop .inv .1 .0))) in
     (omega (arith, c .before .before .before .before .loop-test .taken), (s .at, inside-then (c .before .before .before .before .before .loop .inv .1 .1) (s .inside)))
 
--- src/lib.rt:222:1
 same-length : tie.Need-same-length Inv-loop μ-loop
 same-length c = c .before .loop .inv .1 .1 .size
 
--- src/lib.rt:222:1
 returns : tie.Need-returns Inv-loop μ-loop
 returns c = record { at = c .before .loop .inv .1 .0; count = refl; time = omega (arith, c .loop-test .left, c .before .loop .inv .0); inside = c .before .loop .inv .1 .1 }
 
