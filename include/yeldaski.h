@@ -34,13 +34,14 @@
  *     11  a plan that is not sealed, or a change to a sealed one (never given here: the plan of a file is always sealed)
  *     12  label starts before the earlier one's q
  *     13  a label's q above n
- *     14  workspace under 192 * S * L words of 64 bits, S the count of states, L = hi - lo + 1
+ *     14  workspace under 192 * S * L words of 64 bits (for a table K + 1 times as many), S the count of states, L = hi - lo + 1
  *     15  a buffer under 5 * n run numbers (for the answer reader 5 a run read), or too short for the bytes, readings or costs to be written
  *     16  no allowed segmentation exists; for a cost at a point, none that may count ends in the named state at the named level
  *     17  answer file: runs that do not join from reading 1 on, last < first, last above 4,096, state not 0 to 7, edge not 0 to 31 (255 in the
  *         first run and only there), or no refusal number; in writing also no runs, fewer than five numbers a run, a level outside 16 bits
  *     18  a moving window over a plan with labels
  *     19  a window of 0 readings, of more than 1,024 or of more than the record has
+ *     20  a table for more than 32 changes
  */
 #ifndef YELDASKI_H
 #define YELDASKI_H
@@ -69,6 +70,9 @@ typedef struct {
 
 /* Words of workspace for a search, a cost at a point or a moving window, for 1 to 8 states and 1 to 1,024 levels. */
 #define YELDASKI_WORDS(states, levels) ((size_t)192 * (states) * (levels))
+
+/* Words of workspace for a table of the costs for 0 to `most` changes, `most` from 0 to 32. */
+#define YELDASKI_TABLE_WORDS(states, levels, most) (YELDASKI_WORDS(states, levels) * ((size_t)(most) + 1))
 
 /* Decodes the readings of a plan file. count = how many.
  * Refuses: plan reader, 15.
@@ -107,6 +111,18 @@ yeldaski_outcome yeldaski_point(const uint8_t *file, size_t file_len, const int1
 yeldaski_outcome yeldaski_windows(const uint8_t *file, size_t file_len, const int16_t *record, size_t record_len, size_t w, uint64_t *workspace,
                                   size_t workspace_len, uint64_t *costs, size_t costs_len);
 
+/* The costs for each number of changes: for k from 0 to `most` the least cost among the segmentations of `readings` that the plan of `file` allows
+ * and that have exactly k changes, penalties included, and UINT64_MAX where there is none. A change is a boundary with an edge of kind 1 to 4, inside
+ * labels and outside of them. The readings in the file are not looked at. count = how many numbers there are, most + 1. The smallest of them is the
+ * cost that yeldaski_search gives wherever its answer has at most `most` changes.
+ * Refuses: plan reader, 9, 13, 20 (most above 32), 14 (workspace_len under YELDASKI_TABLE_WORDS), 15 (costs_len under most + 1), 16 (no segmentation
+ * is allowed with any number of changes; where every allowed one has more than `most`, all numbers are UINT64_MAX and nothing is refused).
+ * costs: on success its first `count` numbers are those for 0, 1, .. `most` changes in this order, and the rest stays; on refusal all of it stays.
+ * workspace: on success and after 16 its first 192 * S * L * (most + 1) words are zero and the rest stays; after any other refusal all of it
+ * stays. */
+yeldaski_outcome yeldaski_table(const uint8_t *file, size_t file_len, const int16_t *readings, size_t readings_len, size_t most,
+                                uint64_t *workspace, size_t workspace_len, uint64_t *costs, size_t costs_len);
+
 /* Reads an answer file. held = the refusal that it holds; or cost = its cost, count = its runs.
  * Refuses: field by field to the end of the file cut header 1, tag 2, length 3, cut body 1, 17; then 15.
  * runs: where the file holds runs and is read, its first 5 * count numbers are the runs and the rest stays; otherwise all of it stays. */
@@ -118,7 +134,7 @@ yeldaski_reply yeldaski_read_answer(const uint8_t *file, size_t file_len, int32_
 yeldaski_outcome yeldaski_write_answer(uint64_t cost, const int32_t *runs, size_t runs_len, uint8_t *out, size_t out_len);
 
 /* Writes an answer file that holds a refusal number. count = bytes.
- * Refuses: 17 (number not 1 to 19), 15.
+ * Refuses: 17 (number not 1 to 20), 15.
  * out: on success its first `count` bytes are the file and the rest stays; on refusal all of it stays. */
 yeldaski_outcome yeldaski_write_refusal(uint8_t number, uint8_t *out, size_t out_len);
 

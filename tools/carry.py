@@ -78,7 +78,7 @@ def into(path, crate, fn, template):
         opened = re.match(r'unfolding ([^\n;]*);\s*', term)
         head = f'unfolding {opened.group(1)}\n' if opened else ''
         term = placed(term[opened.end():] if opened else term, need, things)
-        lifetimes = ' κs' if need.endswith('-requires') else ''
+        lifetimes = ' κs' if re.search(r'-requires(-\d+)?$', need) else ''
         text += f'{need} : tie.Need-{need}{"".join(" " + n for n in names)}\n{head}{need} c{lifetimes} = {term}\n\n'
     if answers:
         print('no such need:', ' '.join(answers), file=sys.stderr)

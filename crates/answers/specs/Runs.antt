@@ -10,7 +10,7 @@ use Rattle.integers.specs.Pick.{pick}
 
 -- the last number of the paper's two lists; it rises with each refusal that joins them, and LAST_REFUSAL in code with it
 abbrev pub lastRefusal : ℕ
-lastRefusal = 19
+lastRefusal = 20
 
 -- the refusal numbers that an answer file may hold
 unfoldable pub isRefusal : ℕ → Bool

@@ -21,7 +21,7 @@ pub enum AnswerRead {
 }
 
 // The last number of the paper's two lists. It rises with each refusal that joins them, and lastRefusal in specs with it.
-pub const LAST_REFUSAL: u8 = 19;
+pub const LAST_REFUSAL: u8 = 20;
 
 // The refusal numbers that an answer file may hold.
 pub fn is_refusal(n: u8) -> bool

@@ -7,6 +7,7 @@ use lib.Dec.{eqb}
 use lib.IntN.{ℤ}
 use lib.ListN.{length}
 use borrow.Author.Tests.{eq-eqb, ne-eqb}
+use Rattle.plan.specs.declared.Plan.{Plan}
 use Rattle.integers.specs.Pick.{pick}
 use Rattle.plan.specs.declared.Answer.{Answer}
 use Rattle.plan.specs.declared.Answer.the-variants.{Done, Refused}
@@ -15,8 +16,10 @@ use Rattle.search.specs.declared.Found.{Found}
 use Rattle.search.specs.declared.Found.the-variants.{Segmentation}
 use Rattle.search.specs.declared.Cost.{Cost}
 use Rattle.search.specs.Search.{searchResult, pointResult, foundOf, costOf, runsAfter, wordsAfter}
-use Rattle.windows.specs.declared.Filled.{Filled}
-use Rattle.windows.specs.Windows.{windowResult, filledOf, costsAfter, windowWords}
+use Rattle.search.specs.declared.Filled.{Filled}
+use Rattle.search.specs.Costs.{filledOf, costsAfter}
+use Rattle.windows.specs.Windows.{windowResult, windowWords}
+use Rattle.neighbourhood.specs.Neighbourhood.{tableResult, tableWordsAfter}
 use Rattle.readings.specs.Codec.{decodeNumber, decoded}
 use Rattle.fields.specs.Fields.{partOf}
 use Rattle.fields.specs.declared.Written.{Written}
@@ -24,7 +27,7 @@ use Rattle.files.specs.declared.FileRead.{FileRead}
 use Rattle.files.specs.Reader.{planFile, readingsPart}
 use Rattle.files.specs.Writer.{planWritten, afterWriting}
 use Rattle.finder.specs.declared.Outcome.{Outcome}
-use Rattle.finder.specs.Finder.{given, refusedWith, searchOutcome, pointOutcome, writtenOutcome, windowOutcome, onPlan, searchFile, pointFile, fileWords, windowFile, windowFileWords, readingsNumber, readOutcome, fileReadings, rewritten, afterRewriting}
+use Rattle.finder.specs.Finder.{given, refusedWith, searchOutcome, pointOutcome, writtenOutcome, costsOutcome, onPlan, searchFile, pointFile, fileWords, fileCosts, fileLeft, windowFile, windowFileWords, tableFile, tableFileWords, readingsNumber, readOutcome, fileReadings, rewritten, afterRewriting}
 use Rattle.finder.specs.Parts.{foundOutcome, costOutcome, filledOutcome, runsIn, foundWritten, afterFound}
 
 found-outcome : (r : Result) → foundOutcome (foundOf r) ≡ searchOutcome r
@@ -35,7 +38,7 @@ cost-outcome : (r : Result) → costOutcome (costOf r) ≡ pointOutcome r
 cost-outcome (found c ns) = refl
 cost-outcome (refused n) = refl
 
-filled-outcome : (r : Costs) → filledOutcome (filledOf r) ≡ windowOutcome r
+filled-outcome : (r : Costs) → filledOutcome (filledOf r) ≡ costsOutcome r
 filled-outcome (costList cs) = refl
 filled-outcome (noCosts n) = refl
 
@@ -54,10 +57,20 @@ module _ (s : List ℕ) (r : FileRead) (e : r ≡ planFile s) where
     unfolding pointFile fileWords
     point-none zs st m ws = let q : refused n ≡ pointFile s zs st m (length ws) = none _ refused in (ap pointOutcome q, none _ (λ k. ws))
 
+    -- costs by a call's result, with what it leaves of the words
+    costs-none : (result : Plan → Costs) (left : Plan → Costs → List ℕ → List ℕ) (ws out : List ℕ)
+        → (refusedWith n ≡ costsOutcome (fileCosts s result)) × ((out ≡ costsAfter (fileCosts s result) out) × (ws ≡ fileLeft s (λ P. left P (fileCosts s result) ws) ws))
+    costs-none result left ws out = let q : noCosts n ≡ fileCosts s result = none _ noCosts in (ap costsOutcome q, (ap (λ (x : Costs). costsAfter x out) q, none _ (λ k. ws)))
+
     pub window-none : (zs : List ℤ) (w : ℕ) (ws out : List ℕ)
-        → (refusedWith n ≡ windowOutcome (windowFile s zs w (length ws) (length out))) × ((out ≡ costsAfter (windowFile s zs w (length ws) (length out)) out) × (ws ≡ windowFileWords s (windowFile s zs w (length ws) (length out)) ws))
+        → (refusedWith n ≡ costsOutcome (windowFile s zs w (length ws) (length out))) × ((out ≡ costsAfter (windowFile s zs w (length ws) (length out)) out) × (ws ≡ windowFileWords s (windowFile s zs w (length ws) (length out)) ws))
     unfolding windowFile windowFileWords
-    window-none zs w ws out = let q : noCosts n ≡ windowFile s zs w (length ws) (length out) = none _ noCosts in (ap windowOutcome q, (ap (λ (x : Costs). costsAfter x out) q, none _ (λ k. ws)))
+    window-none zs w ws out = costs-none (λ P. windowResult P zs w (length ws) (length out)) windowWords ws out
+
+    pub table-none : (zs : List ℤ) (most : ℕ) (ws out : List ℕ)
+        → (refusedWith n ≡ costsOutcome (tableFile s zs most (length ws) (length out))) × ((out ≡ costsAfter (tableFile s zs most (length ws) (length out)) out) × (ws ≡ tableFileWords s most (tableFile s zs most (length ws) (length out)) ws))
+    unfolding tableFile tableFileWords
+    table-none zs most ws out = costs-none (λ P. tableResult P zs most (length ws) (length out)) (λ P. tableWordsAfter P most) ws out
 
     pub read-none : (out : List ℤ) → (refusedWith n ≡ readOutcome s (length out)) × (out ≡ fileReadings s out)
     unfolding readOutcome fileReadings
@@ -95,18 +108,29 @@ module _ (s : List ℕ) (r : FileRead) (e : r ≡ planFile s) where
           c ∙ ap (λ (x : Result). wordsAfter (r .plan) x ws) q ∙ ap (λ (x : FileRead). wordsAfter (x .plan) (pointFile s zs st m (length ws)) ws) e ∙ some _ (λ k. ws),
         )
 
-    pub window-some : (zs : List ℤ) (w : ℕ) (ws ws′ out out′ : List ℕ) (f : Filled) (o : Outcome) → o ≡ filledOutcome f
-        → (f ≡ filledOf (windowResult (r .plan) zs w (length ws) (length out))) × ((out′ ≡ costsAfter (windowResult (r .plan) zs w (length ws) (length out)) out) × (ws′ ≡ windowWords (r .plan) (windowResult (r .plan) zs w (length ws) (length out)) ws))
-        → (o ≡ windowOutcome (windowFile s zs w (length ws) (length out))) × ((out′ ≡ costsAfter (windowFile s zs w (length ws) (length out)) out) × (ws′ ≡ windowFileWords s (windowFile s zs w (length ws) (length out)) ws))
-    unfolding windowFile windowFileWords
-    window-some zs w ws ws′ out out′ f o k (a, (b, c)) =
-        let q : windowResult (r .plan) zs w (length ws) (length out) ≡ windowFile s zs w (length ws) (length out) = ap (λ (x : FileRead). windowResult (x .plan) zs w (length ws) (length out)) e ∙ some _ noCosts in (
-          k ∙ ap filledOutcome a ∙ filled-outcome (windowResult (r .plan) zs w (length ws) (length out)) ∙ ap windowOutcome q,
+    costs-some : (result : Plan → Costs) (left : Plan → Costs → List ℕ → List ℕ) (ws ws′ out out′ : List ℕ) (f : Filled) (o : Outcome) → o ≡ filledOutcome f
+        → (f ≡ filledOf (result (r .plan))) × ((out′ ≡ costsAfter (result (r .plan)) out) × (ws′ ≡ left (r .plan) (result (r .plan)) ws))
+        → (o ≡ costsOutcome (fileCosts s result)) × ((out′ ≡ costsAfter (fileCosts s result) out) × (ws′ ≡ fileLeft s (λ P. left P (fileCosts s result) ws) ws))
+    costs-some result left ws ws′ out out′ f o k (a, (b, c)) =
+        let q : result (r .plan) ≡ fileCosts s result = ap (λ (x : FileRead). result (x .plan)) e ∙ some _ noCosts in (
+          k ∙ ap filledOutcome a ∙ filled-outcome (result (r .plan)) ∙ ap costsOutcome q,
           (
             b ∙ ap (λ (x : Costs). costsAfter x out) q,
-            c ∙ ap (λ (x : Costs). windowWords (r .plan) x ws) q ∙ ap (λ (x : FileRead). windowWords (x .plan) (windowFile s zs w (length ws) (length out)) ws) e ∙ some _ (λ k. ws),
+            c ∙ ap (λ (x : Costs). left (r .plan) x ws) q ∙ ap (λ (x : FileRead). left (x .plan) (fileCosts s result) ws) e ∙ some _ (λ k. ws),
           ),
         )
+
+    pub window-some : (zs : List ℤ) (w : ℕ) (ws ws′ out out′ : List ℕ) (f : Filled) (o : Outcome) → o ≡ filledOutcome f
+        → (f ≡ filledOf (windowResult (r .plan) zs w (length ws) (length out))) × ((out′ ≡ costsAfter (windowResult (r .plan) zs w (length ws) (length out)) out) × (ws′ ≡ windowWords (r .plan) (windowResult (r .plan) zs w (length ws) (length out)) ws))
+        → (o ≡ costsOutcome (windowFile s zs w (length ws) (length out))) × ((out′ ≡ costsAfter (windowFile s zs w (length ws) (length out)) out) × (ws′ ≡ windowFileWords s (windowFile s zs w (length ws) (length out)) ws))
+    unfolding windowFile windowFileWords
+    window-some zs w ws ws′ out out′ f o k h = costs-some (λ P. windowResult P zs w (length ws) (length out)) windowWords ws ws′ out out′ f o k h
+
+    pub table-some : (zs : List ℤ) (most : ℕ) (ws ws′ out out′ : List ℕ) (f : Filled) (o : Outcome) → o ≡ filledOutcome f
+        → (f ≡ filledOf (tableResult (r .plan) zs most (length ws) (length out))) × ((out′ ≡ costsAfter (tableResult (r .plan) zs most (length ws) (length out)) out) × (ws′ ≡ tableWordsAfter (r .plan) most (tableResult (r .plan) zs most (length ws) (length out)) ws))
+        → (o ≡ costsOutcome (tableFile s zs most (length ws) (length out))) × ((out′ ≡ costsAfter (tableFile s zs most (length ws) (length out)) out) × (ws′ ≡ tableFileWords s most (tableFile s zs most (length ws) (length out)) ws))
+    unfolding tableFile tableFileWords
+    table-some zs most ws ws′ out out′ f o k h = costs-some (λ P. tableResult P zs most (length ws) (length out)) (λ P. tableWordsAfter P most) ws ws′ out out′ f o k h
 
     pub write-some : (zs : List ℤ) (out out′ : List ℕ) (w : Written) (o : Outcome) → o ≡ writtenOutcome w
         → (w ≡ planWritten (r .plan) (length zs) (length out)) × (out′ ≡ afterWriting (r .plan) zs out)

@@ -5,12 +5,14 @@ use Prim.Native.Nat.{ℕ, _+_, _*_, _/_}
 use lib.Dec.{eqb, leb}
 use lib.IntN.{ℤ}
 use lib.ListN.{length, drop}
+use Rattle.plan.specs.declared.Plan.{Plan}
 use Rattle.integers.specs.Pick.{pick}
 use Rattle.plan.specs.declared.Answer.{Answer}
 use Rattle.plan.specs.declared.Answer.the-variants.{Done, Refused}
 use Rattle.model.specs.Result.{Result, found, refused, Costs, costList, noCosts}
 use Rattle.search.specs.Search.{searchResult, pointResult, wordsAfter}
 use Rattle.windows.specs.Windows.{windowResult, windowWords}
+use Rattle.neighbourhood.specs.Neighbourhood.{tableResult, tableWordsAfter}
 use Rattle.readings.specs.Codec.{readingsOf, decodeNumber, decoded}
 use Rattle.fields.specs.Put.{outcome, written, writtenNumber, writtenBytes}
 use Rattle.fields.specs.declared.Written.{Written}
@@ -39,9 +41,9 @@ abbrev pub pointOutcome : Result → Outcome
 pointOutcome (found c ns) = given 0 c 0
 pointOutcome (refused n) = refusedWith n
 
-abbrev pub windowOutcome : Costs → Outcome
-windowOutcome (costList cs) = given 0 0 (length cs)
-windowOutcome (noCosts n) = refusedWith n
+abbrev pub costsOutcome : Costs → Outcome
+costsOutcome (costList cs) = given 0 0 (length cs)
+costsOutcome (noCosts n) = refusedWith n
 
 abbrev pub writtenOutcome : Written → Outcome
 writtenOutcome w = given (writtenNumber w) 0 (writtenBytes w)
@@ -82,12 +84,26 @@ pointFile s zs st m words = onPlan (planFile s .answer) (pointResult (planFile s
 unfoldable pub fileWords : List ℕ → Result → List ℕ → List ℕ
 fileWords s r ws = onPlan (planFile s .answer) (wordsAfter (planFile s .plan) r ws) (λ n. ws)
 
--- the costs of a moving window, and the workspace after it
+-- the costs that a call gives of the plan of a file, and the workspace after it
+abbrev pub fileCosts : List ℕ → (Plan → Costs) → Costs
+fileCosts s result = onPlan (planFile s .answer) (result (planFile s .plan)) noCosts
+
+abbrev pub fileLeft : List ℕ → (Plan → List ℕ) → List ℕ → List ℕ
+fileLeft s left ws = onPlan (planFile s .answer) (left (planFile s .plan)) (λ n. ws)
+
+-- of a moving window
 unfoldable pub windowFile : List ℕ → List ℤ → ℕ → ℕ → ℕ → Costs
-windowFile s zs w words room = onPlan (planFile s .answer) (windowResult (planFile s .plan) zs w words room) noCosts
+windowFile s zs w words room = fileCosts s (λ P. windowResult P zs w words room)
 
 unfoldable pub windowFileWords : List ℕ → Costs → List ℕ → List ℕ
-windowFileWords s r ws = onPlan (planFile s .answer) (windowWords (planFile s .plan) r ws) (λ n. ws)
+windowFileWords s r ws = fileLeft s (λ P. windowWords P r ws) ws
+
+-- of each number of changes
+unfoldable pub tableFile : List ℕ → List ℤ → ℕ → ℕ → ℕ → Costs
+tableFile s zs most words room = fileCosts s (λ P. tableResult P zs most words room)
+
+unfoldable pub tableFileWords : List ℕ → ℕ → Costs → List ℕ → List ℕ
+tableFileWords s most r ws = fileLeft s (λ P. tableWordsAfter P most r ws) ws
 
 -- ---- the readings of a file
 

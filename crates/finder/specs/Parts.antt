@@ -5,8 +5,8 @@ use lib.IntN.{ℤ}
 use lib.ListN.{take}
 use Rattle.search.specs.declared.Found.{Found}
 use Rattle.search.specs.declared.Found.the-variants.{Segmentation, Refused}
-use Rattle.windows.specs.declared.Filled.{Filled}
-use Rattle.windows.specs.declared.Filled.the-variants as W
+use Rattle.search.specs.declared.Filled.{Filled}
+use Rattle.search.specs.declared.Filled.the-variants as F
 use Rattle.search.specs.declared.Cost.{Cost}
 use Rattle.search.specs.declared.Cost.the-variants.{Least, Refusal}
 use Rattle.fields.specs.declared.Written.{Written}
@@ -23,8 +23,8 @@ costOutcome (Least c) = given 0 c 0
 costOutcome (Refusal n) = refusedWith n
 
 abbrev pub filledOutcome : Filled → Outcome
-filledOutcome (W.Starts k) = given 0 0 k
-filledOutcome (W.Refused n) = refusedWith n
+filledOutcome (F.Costs k) = given 0 0 k
+filledOutcome (F.Refused n) = refusedWith n
 
 -- how many run numbers an answer has in its list
 abbrev pub runsIn : Found → ℕ

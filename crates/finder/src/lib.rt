@@ -4,17 +4,17 @@ use fields::Written;
 use plan::Answer;
 use plan::Plan;
 use search::Cost;
+use search::Filled;
 use search::Found;
-use windows::Filled;
 ghost use mathlib.Core.Path.{_≡_};
 ghost use Prim.Native.Nat.{ℕ, _*_, _≤_, _<_};
 ghost use lib.Signed.{mag};
 ghost use lib.ListN.{length, take};
 ghost use Rattle.search.specs.Search.{runsAfter};
-ghost use Rattle.windows.specs.Windows.{costsAfter};
+ghost use Rattle.search.specs.Costs.{costsAfter};
 ghost use Rattle.answers.specs.Reader.{readAnswer, filled};
 ghost use Rattle.answers.specs.Writer.{answerWritten, afterAnswer, refusalWritten, afterRefusal};
-ghost use Rattle.finder.specs.Finder.{given, refusedWith, writtenOutcome, replyOf, searchOutcome, pointOutcome, searchFile, pointFile, fileWords, windowOutcome, windowFile, windowFileWords, readOutcome, fileReadings, rewritten, afterRewriting, fileResult, segmentOutcome, afterSegment, programBytes, atFront};
+ghost use Rattle.finder.specs.Finder.{given, refusedWith, writtenOutcome, replyOf, searchOutcome, pointOutcome, searchFile, pointFile, fileWords, costsOutcome, windowFile, windowFileWords, tableFile, tableFileWords, readOutcome, fileReadings, rewritten, afterRewriting, fileResult, segmentOutcome, afterSegment, programBytes, atFront};
 ghost use Rattle.finder.specs.Parts.{foundOutcome, costOutcome, filledOutcome, runsIn, foundWritten, afterFound};
 
 // What a call gives: its refusal, 0 where there is none; a cost; and how many runs, costs, readings or bytes it wrote.
@@ -89,11 +89,11 @@ fn least(c: Cost) -> Outcome
     }
 }
 
-fn window(f: Filled) -> Outcome
+fn filled(f: Filled) -> Outcome
     ensures { λ r. ⌜ r ≡ filledOutcome f ⌝ }
 {
     match f {
-        Filled::Starts(n) => counted(n),
+        Filled::Costs(n) => counted(n),
         Filled::Refused(n) => refused(n),
     }
 }
@@ -149,7 +149,7 @@ pub extern "C" fn yeldaski_windows(
     workspace: &mut [u64],
     costs: &mut [u64],
 ) -> Outcome
-    ensures answer { λ r. ⌜ r ≡ windowOutcome (windowFile (now (file .entry)) (now («record» .entry)) w (length (now (workspace .entry))) (length (now (costs .entry)))) ⌝ }
+    ensures answer { λ r. ⌜ r ≡ costsOutcome (windowFile (now (file .entry)) (now («record» .entry)) w (length (now (workspace .entry))) (length (now (costs .entry)))) ⌝ }
     ensures list { λ r. ⌜ now (costs .exit) ≡ costsAfter (windowFile (now (file .entry)) (now («record» .entry)) w (length (now (workspace .entry))) (length (now (costs .entry)))) (now (costs .entry)) ⌝ }
     ensures words { λ r. ⌜ now (workspace .exit) ≡ windowFileWords (now (file .entry)) (windowFile (now (file .entry)) (now («record» .entry)) w (length (now (workspace .entry))) (length (now (costs .entry)))) (now (workspace .entry)) ⌝ }
 {
@@ -159,7 +159,29 @@ pub extern "C" fn yeldaski_windows(
         return refused(files::answer_number(answer));
     };
     let plan = read.plan;
-    window(windows::least_costs(plan, record, w, workspace, costs))
+    filled(windows::least_costs(plan, record, w, workspace, costs))
+}
+
+// The least cost for each number of changes from 0 to `most`, in this order.
+#[no_mangle]
+pub extern "C" fn yeldaski_table(
+    file: &[u8],
+    readings: &[i16],
+    most: usize,
+    workspace: &mut [u64],
+    costs: &mut [u64],
+) -> Outcome
+    ensures answer { λ r. ⌜ r ≡ costsOutcome (tableFile (now (file .entry)) (now (readings .entry)) most (length (now (workspace .entry))) (length (now (costs .entry)))) ⌝ }
+    ensures list { λ r. ⌜ now (costs .exit) ≡ costsAfter (tableFile (now (file .entry)) (now (readings .entry)) most (length (now (workspace .entry))) (length (now (costs .entry)))) (now (costs .entry)) ⌝ }
+    ensures words { λ r. ⌜ now (workspace .exit) ≡ tableFileWords (now (file .entry)) most (tableFile (now (file .entry)) (now (readings .entry)) most (length (now (workspace .entry))) (length (now (costs .entry)))) (now (workspace .entry)) ⌝ }
+{
+    let read = files::read_plan(file);
+    let answer = read.answer;
+    let Answer::Done = answer else {
+        return refused(files::answer_number(answer));
+    };
+    let plan = read.plan;
+    filled(neighbourhood::by_changes(plan, readings, most, workspace, costs))
 }
 
 // The readings of a plan file, decoded to the front of a list.

@@ -1,5 +1,5 @@
--- What the plan check (`planNumber P ≡ 0`), and a search, a point or a moving window that no earlier number refuses, ensure: the proofs of
--- the model rest on these facts alone, and none is assumed. Assumes nothing.
+-- What the plan check (`planNumber P ≡ 0`), and a search, a point, a table of costs for each number of changes or a moving window that no earlier
+-- number refuses, ensure: the proofs of the model rest on these facts alone, and none is assumed. Assumes nothing.
 use mathlib.Core.Path.{_≡_, refl, sym, _∙_, ap}
 use mathlib.Core.Bool.{Bool, true, false}
 use mathlib.Core.Logic.{_⊎_, inl, inr}
@@ -10,7 +10,7 @@ use native.Mathlib.Numerals.{unary-clauses}
 use native.Mathlib.Nat.{div-eq-of-lt, pow-le-pow-right}
 use native.Mathlib.Decide.{decLt, ℕ-discrete}
 use lib.Dec.{leb, ltb, eqb}
-use borrow.Author.Tests.{ltb-true, ltb-false, leb-true, leb-false, eqb-true, eqb-false, le-leb, eq-eqb}
+use borrow.Author.Tests.{ltb-true, ltb-false, leb-true, leb-false, eqb-true, eqb-false, le-leb, lt-leb, eq-eqb, ne-eqb}
 use lib.IntN.{ℤ, pos, negsuc, _-ℤ_}
 use lib.Signed.{leZ, ltZ, leZ-yes}
 use Rattle.integers.specs.Rep.{iz, nz, _⊕_, _⊖_, eqN, leN, holds}
@@ -284,7 +284,7 @@ module _ (P : Plan) (h : planNumber P ≡ 0) where
         low = λ i k. label-good (P .labels) i (labelAt P i) (label i k) .3;
       }
 
--- ---- a search, a point or a moving window that no number refuses
+-- ---- a search, a point, a table or a moving window that no number refuses
 
 pub record Accepted (P : Plan) (n : ℕ) : Type 0 where
   pub plan : Checked P
@@ -371,12 +371,25 @@ accepted-window P n w h =
       part = rw (a, not-late P w (eqb-true (P .labelcount) 0 d), b, z, le-leb w 4096 (omega arith)) refl;
     }
 
+-- The number of a table, case by case: a number of the search comes first, and then 20.
+pub table-search : (P : Plan) (n most : ℕ) → (searchNumber P n ≡ 0 → ⊥) → tableNumber P n most ≡ searchNumber P n
+unfolding tableNumber
+table-search P n most h = rw (ne-eqb (searchNumber P n) 0 h) refl
+
+pub table-20 : (P : Plan) (n most : ℕ) → searchNumber P n ≡ 0 → 32 < most → tableNumber P n most ≡ 20
+unfolding tableNumber
+table-20 P n most h k = rw (h, lt-leb most 32 k) refl
+
+pub table-fine : (P : Plan) (n most : ℕ) → searchNumber P n ≡ 0 → most ≤ 32 → tableNumber P n most ≡ 0
+unfolding tableNumber
+table-fine P n most h k = rw (h, le-leb most 32 k) refl
+
 -- ---- the numbers of a refusal before a call looks
 
 -- These numbers, and 0. A refusal that a ticket adds to a plan or to a call that searches joins the list; all else follows by computing. 16 is none of
 -- them: it says that the call has looked.
 abbrev earlyNumbers : List ℕ
-earlyNumbers = 0 ∷ 4 ∷ 5 ∷ 6 ∷ 7 ∷ 8 ∷ 9 ∷ 10 ∷ 11 ∷ 12 ∷ 13 ∷ 18 ∷ 19 ∷ []
+earlyNumbers = 0 ∷ 4 ∷ 5 ∷ 6 ∷ 7 ∷ 8 ∷ 9 ∷ 10 ∷ 11 ∷ 12 ∷ 13 ∷ 18 ∷ 19 ∷ 20 ∷ []
 
 abbrev isIn : ℕ → List ℕ → Bool
 isIn n [] = false
@@ -462,6 +475,13 @@ search-not-16 P n = early-not-16 (searchNumber P n) (search-is-early P n)
 
 pub point-not-16 : (P : Plan) (n s : ℕ) (m : ℤ) → pointNumber P n s m ≡ 16 → ⊥
 point-not-16 P n s m = early-not-16 (pointNumber P n s m) (point-is-early P n s m)
+
+table-is-early : (P : Plan) (n most : ℕ) → isEarly (tableNumber P n most) ≡ true
+unfolding tableNumber
+table-is-early P n most = pick-early (eqb (searchNumber P n) 0) _ (searchNumber P n) (pick-early (leb most 32) 0 20 refl refl) (search-is-early P n)
+
+pub table-not-16 : (P : Plan) (n most : ℕ) → tableNumber P n most ≡ 16 → ⊥
+table-not-16 P n most = early-not-16 (tableNumber P n most) (table-is-early P n most)
 
 window-is-early : (P : Plan) (n w : ℕ) → isEarly (windowNumber P n w) ≡ true
 unfolding windowNumber

@@ -351,6 +351,10 @@ module _ (P : Plan) (zs : List ℤ) (most : ℕ) where
         go (inl (g′, e, p)) = p
         go (inr (e, p)) = absurd (listed-none P zs built e g a)
 
+    -- so where one entry is a cost
+    pub table-entry : (k : ℕ) → (entryOf (listedWith P zs k) ≡ mostWord → ⊥) → tableOf P zs most ≡ costList (entries P zs (suc most))
+    table-entry k off = let (g, a, e, w) = entry-found P zs built k off .met in table-found g a
+
   -- by the least end of a search
   module _ (accepts : searchNumber P (length zs) ≡ 0) (H : Table) (hold : Holding P zs (length zs) H) where
     pub table-none-by : noCost ≤ leastEndAt P H → tableOf P zs most ≡ noCosts 16

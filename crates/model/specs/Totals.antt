@@ -229,10 +229,10 @@ module _ (P : Plan) (zs : List ℤ) where
   total-zero (suc zero) k s j = refl
   total-zero (suc (suc t)) k s j = refl
 
-  pub total-next : (t i k s j : ℕ) → 1 ≤ t → totalAt P zs (suc t) (suc i) k s j ≡ nextFrom P zs t (λ c. totalAt P zs t (suc i - c)) k s j
+  pub total-next : (t i : ℕ) → 1 ≤ t → nextFrom P zs t (λ c. totalAt P zs t (suc i - c)) ≡ totalAt P zs (suc t) (suc i)
   unfolding totalAt
-  total-next zero i k s j h = absurd (omega arith)
-  total-next (suc t) i k s j h = refl
+  total-next zero i h = absurd (omega arith)
+  total-next (suc t) i h = refl
 
   module _ (R : Ready P zs) where
     -- the same bound as for a search

@@ -22,22 +22,22 @@ use Rattle.search.specs.Solve.{Solved}
 use Rattle.search.proofs.Zeros.{same-drop}
 
 -- a refusal before a call looks leaves the words as they were
-pub left-untouched : (P : Plan) (l : Bool) (ws : List ℕ) → l ≡ false → ws ≡ wordsLeft P l ws
+pub left-untouched : (n : ℕ) (l : Bool) (ws : List ℕ) → l ≡ false → ws ≡ wordsLeft n l ws
 unfolding wordsLeft
-left-untouched P l ws h = rw h refl
+left-untouched n l ws h = rw h refl
 
 -- what is cleared once it has looked
-pub left-cleared : (P : Plan) (l : Bool) (ws ws′ : List ℕ) → l ≡ true → Inside 0 (limit P) ws ws′ → replicate (workWords P) 0 ++ drop (workWords P) ws′ ≡ wordsLeft P l ws
-unfolding wordsLeft workWords
-left-cleared P l ws ws′ h i = rw h (ap (λ (x : List ℕ). replicate (limit P) 0 ++ x) (same-drop (limit P) ws ws′ (i .size) (λ k q. i .word k (inr q))))
+pub left-cleared : (n : ℕ) (l : Bool) (ws ws′ : List ℕ) → l ≡ true → Inside 0 n ws ws′ → replicate n 0 ++ drop n ws′ ≡ wordsLeft n l ws
+unfolding wordsLeft
+left-cleared n l ws ws′ h i = rw h (ap (λ (x : List ℕ). replicate n 0 ++ x) (same-drop n ws ws′ (i .size) (λ k q. i .word k (inr q))))
 
 pub untouched : (P : Plan) (r : Result) (n : ℕ) (ws : List ℕ) → r ≡ refused n → (n ≡ 16 → ⊥) → ws ≡ wordsAfter P r ws
 unfolding wordsAfter
-untouched P r n ws e h = left-untouched P (looked r) ws (ap looked e ∙ ne-eqb n 16 h)
+untouched P r n ws e h = left-untouched (workWords P) (looked r) ws (ap looked e ∙ ne-eqb n 16 h)
 
 pub cleared-is : (P : Plan) (r : Result) (ws ws′ : List ℕ) → looked r ≡ true → Inside 0 (limit P) ws ws′ → replicate (workWords P) 0 ++ drop (workWords P) ws′ ≡ wordsAfter P r ws
-unfolding wordsAfter
-cleared-is P r ws ws′ h i = left-cleared P (looked r) ws ws′ h i
+unfolding wordsAfter workWords
+cleared-is P r ws ws′ h i = left-cleared (limit P) (looked r) ws ws′ h i
 
 -- ---- the contract of a search, at each of its ends
 

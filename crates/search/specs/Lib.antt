@@ -1,5 +1,6 @@
 pub mod Lent
 pub mod Search
+pub mod Costs
 pub mod Cheapest
 pub mod Way
 pub mod Solve

@@ -57,8 +57,9 @@ looked (found c ns) = true
 looked (refused n) = eqb n 16
 
 -- "the first .. × S × L words are zero and the others untouched; after other refusals all are untouched", 192 of them "also for what is cleared" (02)
-unfoldable pub wordsLeft : Plan → Bool → List ℕ → List ℕ
-wordsLeft P l ws = cond l (replicate (workWords P) 0 ++ drop (workWords P) ws) ws
+-- of a call that needs n words:
+unfoldable pub wordsLeft : ℕ → Bool → List ℕ → List ℕ
+wordsLeft n l ws = cond l (replicate n 0 ++ drop n ws) ws
 
 unfoldable pub wordsAfter : Plan → Result → List ℕ → List ℕ
-wordsAfter P r ws = wordsLeft P (looked r) ws
+wordsAfter P r ws = wordsLeft (workWords P) (looked r) ws

@@ -20,8 +20,8 @@ use Rattle.saved.specs.Walk.{Workspace, limit}
 use Rattle.search.specs.declared.Ended.{Ended}
 use Rattle.search.specs.Cheapest.{Reaches, cheapest-none, cheapest-some}
 use Rattle.search.proofs.Solves.{task-of}
-use Rattle.windows.specs.declared.Filled.the-variants.{Starts, Refused}
-use Rattle.windows.specs.Windows.{filledOf, costsAfter, costsLooked}
+use Rattle.search.specs.declared.Filled.the-variants as F
+use Rattle.search.specs.Costs.{filledOf, costsAfter, costsLooked}
 use Rattle.windows.specs.Fill.{Fillable, FilledTo}
 
 -- ---- one part
@@ -82,7 +82,7 @@ module _ {P : Plan} {zs : List ℤ} {w : ℕ} {g : Shape} {ws out : List ℕ} (f
   some-start = omega (arith, f .accepts .inside)
 
   -- 16 is met at the first part or nowhere, so that no cost has been written
-  pub filled-none : {ws′ : List ℕ} → a ≤ length zs - w → resultOf P (partAt zs w a) whole ≡ refused 16 → Inside 0 (limit P) ws ws′ → FilledTo P zs w (Refused 16) ws ws′ out out′
+  pub filled-none : {ws′ : List ℕ} → a ≤ length zs - w → resultOf P (partAt zs w a) whole ≡ refused 16 → Inside 0 (limit P) ws ws′ → FilledTo P zs w (F.Refused 16) ws ws′ out out′
   unfolding windowsOf
   filled-none h e i = record {
     answer = ap filledOf (sym none-is);
@@ -101,10 +101,10 @@ module _ {P : Plan} {zs : List ℤ} {w : ℕ} {g : Shape} {ws out : List ℕ} (f
       untouched zero d r = r
       untouched (suc x) d r = let z : _≡_ {A = Costs} (noCosts 16) (costList (take (suc x) out′)) = sym (costs-refused P zs w 16 first x) ∙ d in let y : _≡_ {A = ℕ} 0 1 = cc in absurd (omega arith)
 
-  pub filled-all : {ws′ : List ℕ} → a ≡ starts (length zs) w → Inside 0 (limit P) ws ws′ → FilledTo P zs w (Starts a) ws ws′ out out′
+  pub filled-all : {ws′ : List ℕ} → a ≡ starts (length zs) w → Inside 0 (limit P) ws ws′ → FilledTo P zs w (F.Costs a) ws ws′ out out′
   unfolding windowsOf
   filled-all e i = record {
-    answer = ap Starts (e ∙ sym length-is) ∙ ap filledOf (sym all-is);
+    answer = ap F.Costs (e ∙ sym length-is) ∙ ap filledOf (sym all-is);
     list = (sym (take-append-drop n out′) ∙ ap (λ (x : List ℕ). take n out′ ++ x) (rest ∙ ap (λ (x : ℕ). drop x out) (sym length-is))) ∙ ap (λ (x : Costs). costsAfter x out) (sym all-is);
     looks = ap costsLooked all-is;
     inside = i;

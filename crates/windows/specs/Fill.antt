@@ -1,7 +1,5 @@
 -- The walk over the windows, once no refusal before 16 applies. Assumes nothing.
-use mathlib.Core.Path.{_≡_}
 use mathlib.Core.List.{List}
-use mathlib.Core.Bool.{true}
 use Prim.Native.Nat.{ℕ, _≤_, _<_}
 use lib.IntN.{ℤ, pos}
 use lib.ListN.{length, getD}
@@ -11,10 +9,9 @@ use Rattle.model.specs.Checked.{AcceptedWindow}
 use Rattle.model.specs.Window.{starts, windowsOf}
 use Rattle.layer.specs.declared.Shape.{Shape}
 use Rattle.layer.specs.Layer.{ShapeOf}
-use Rattle.saved.specs.Packed.{Inside}
 use Rattle.saved.specs.Walk.{limit}
-use Rattle.windows.specs.declared.Filled.{Filled}
-use Rattle.windows.specs.Windows.{filledOf, costsAfter, costsLooked}
+use Rattle.search.specs.declared.Filled.{Filled}
+use Rattle.search.specs.Costs.{FilledBy}
 
 pub record Fillable (P : Plan) (zs : List ℤ) (w : ℕ) (g : Shape) (ws out : List ℕ) : Type 0 where
   pub accepts : AcceptedWindow P (length zs) w
@@ -26,8 +23,5 @@ pub record Fillable (P : Plan) (zs : List ℤ) (w : ℕ) (g : Shape) (ws out : L
   pub room : starts (length zs) w ≤ length out
 
 -- the model's costs, and no word above the workspace's part changed
-pub record FilledTo (P : Plan) (zs : List ℤ) (w : ℕ) (r : Filled) (ws ws′ out out′ : List ℕ) : Type 0 where
-  pub answer : r ≡ filledOf (windowsOf P zs w)
-  pub list : out′ ≡ costsAfter (windowsOf P zs w) out
-  pub looks : costsLooked (windowsOf P zs w) ≡ true
-  pub inside : Inside 0 (limit P) ws ws′
+abbrev pub FilledTo : Plan → List ℤ → ℕ → Filled → List ℕ → List ℕ → List ℕ → List ℕ → Type 0
+FilledTo P zs w r ws ws′ out out′ = FilledBy (windowsOf P zs w) (limit P) r ws ws′ out out′

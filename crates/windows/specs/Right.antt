@@ -8,7 +8,6 @@ use Prim.Native.Nat.{ℕ, suc, _+_, _-_, _*_, _≤_, _<_}
 use native.Mathlib.Omega.{arith}
 use lib.IntN.{ℤ}
 use lib.ListN.{length, getD, take, drop}
-use lib.Seq.{take-append-seam}
 use Rattle.plan.specs.declared.Plan.{Plan}
 use Rattle.model.specs.Segmentation.{Seg}
 use Rattle.model.specs.Model.{cost, First}
@@ -21,7 +20,8 @@ use Rattle.model.specs.WindowLaws.{Each, part-length, costs-each, costs-refused
 use Rattle.search.specs.Lent.{lent-early, lent-short, lent-narrow, lent-looks, lent-found}
 use Rattle.search.specs.Search.{workWords, searchResult}
 use Rattle.search.specs.Right.{search-looks}
-use Rattle.windows.specs.Windows.{windowResult, filledOf, filledResult, costsAfter, costsLooked}
+use Rattle.search.specs.Costs.{costsLooked}
+use Rattle.windows.specs.Windows.{windowResult}
 
 -- ---- the claim
 
@@ -133,9 +133,3 @@ module _ (P : Plan) (zs : List ℤ) (w words room : ℕ) where
     where
       looks : WindowAccepts P (length zs) w words room → windowResult P zs w words room ≡ windowsOf P zs w
       looks q = window-looks (q .0) (q .1) (q .2)
-
--- ---- the answers tell the results
-
-pub window-tells : (r : Costs) (out : List ℕ) → filledResult (filledOf r) (costsAfter r out) ≡ r
-window-tells (costList cs) out = ap costList (take-append-seam cs (drop (length cs) out))
-window-tells (noCosts n) out = refl

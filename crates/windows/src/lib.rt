@@ -1,18 +1,14 @@
 // The moving window: the least cost of every stretch of w readings of a long record.
 use layer::Shape;
 use plan::Plan;
+use search::Filled;
 ghost use mathlib.Core.Path.{_≡_};
 ghost use lib.ListN.{length};
 ghost use Rattle.coded.specs.Coded.{Coded};
 ghost use Rattle.saved.specs.Walk.{tableSize};
-ghost use Rattle.windows.specs.Windows.{windowResult, filledOf, costsAfter, windowWords};
+ghost use Rattle.search.specs.Costs.{filledOf, costsAfter};
+ghost use Rattle.windows.specs.Windows.{windowResult, windowWords};
 ghost use Rattle.windows.specs.Fill.{Fillable, FilledTo};
-
-// The answer: how many costs were written, one for each start, or the refusal.
-pub enum Filled {
-    Starts(usize),
-    Refused(u8),
-}
 
 // The costs of all parts, one after the other. Each part is searched as if it were the record; no layer is saved, since nothing goes back.
 fn each_part(
@@ -41,7 +37,7 @@ fn each_part(
         costs[a] = least;
         a += 1;
     }
-    Filled::Starts(a)
+    Filled::Costs(a)
 }
 
 // The walk with what it lends to every part: the plan's edges and labels, and the table of saved layers, of which none is used.

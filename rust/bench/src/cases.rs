@@ -87,6 +87,38 @@ pub fn moving() -> Vec<Moving> {
     all
 }
 
+/// A table of the costs for 0 to `most` changes over a record.
+pub struct Tabled {
+    pub case: Case,
+    pub most: usize,
+}
+
+/// Readings of a record for a table: few enough that the dense programme takes some tenths of a second.
+pub const TABLED: usize = 1_024;
+
+/// Tables of one entry, of some and of the most, on some of the usual graphs.
+pub fn tabled() -> Vec<Tabled> {
+    let mut all = vec![];
+    for levels in [80, 256, 1_024] {
+        let (class, g) = (class_for(levels), levels / 16);
+        for (name, plan) in [
+            ("any", any(levels, class)),
+            ("any, class 2", any(levels, 2)),
+            ("any, 16 labels", with_labels(any(levels, class), TABLED, &[0, 1])),
+            ("up-down", up_down(levels, class)),
+            ("belt, 3 states", belt(levels, class, g)),
+            ("ring, 4 states", ring(levels, 4, class, g)),
+        ] {
+            for most in [0, 8, 32] {
+                let mut case = traced(name, plan.clone(), TABLED);
+                case.name += &format!(", K = {most}");
+                all.push(Tabled { case, most });
+            }
+        }
+    }
+    all
+}
+
 /// Records in plan files that are only read.
 pub struct Decoding {
     pub name: &'static str,

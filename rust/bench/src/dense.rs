@@ -76,9 +76,14 @@ impl<'a> Dense<'a> {
     }
 
     fn step(&mut self, boundary: usize, cur: &[i64], next: &mut [i64], x: i64) {
+        self.prepare(boundary, cur);
+        self.fill(boundary, cur, next, x);
+    }
+
+    /// The next row: stays lead there from the row `cur`, and changes from the one that was prepared.
+    fn fill(&self, boundary: usize, cur: &[i64], next: &mut [i64], x: i64) {
         let (levels, states) = (self.levels, self.plan.states);
         let mode = mode_at(self.plan, boundary);
-        self.prepare(boundary, cur);
         for j in 0..counts_at(self.plan, boundary + 1) * states {
             let (k, s) = (j / states, j % states);
             let out = &mut next[j * levels..(j + 1) * levels];
@@ -188,6 +193,25 @@ pub fn cost(plan: &Plan, z: &[i16]) -> i64 {
         std::mem::swap(&mut cur, &mut next);
     }
     best_end(plan, &cur).value
+}
+
+/// The least cost for each number of changes up to `most`, with a row for each of them at two readings.
+pub fn table(plan: &Plan, z: &[i16], most: usize) -> Vec<Option<i64>> {
+    let mut d = Dense::new(plan);
+    let row = d.row();
+    // The row of k changes stands at k + 1, and none lead to the row before that of 0.
+    let (mut cur, mut next) = (vec![NONE; (most + 2) * row], vec![NONE; (most + 2) * row]);
+    d.first(&mut cur[row..2 * row], z[0] as i64);
+    for (i, x) in z.iter().enumerate().skip(1) {
+        for k in 0..=most.min(i) {
+            d.prepare(i, &cur[k * row..(k + 1) * row]);
+            let at = (k + 1) * row..(k + 2) * row;
+            d.fill(i, &cur[at.clone()], &mut next[at], *x as i64);
+        }
+        std::mem::swap(&mut cur, &mut next);
+    }
+    let least = |row: &[i64]| Some(best_end(plan, row).value).filter(|cost| *cost < NONE);
+    cur[row..].chunks(row).map(least).collect()
 }
 
 /// The whole search with the whole table.

@@ -3,22 +3,29 @@ use crate::list::*;
 use crate::model::*;
 use crate::piece::*;
 
-/// Where things stand in the workspace: two layers, three lists for work, then the saved layers.
+/// Where things stand in the workspace: two layers, for a table two for each number of changes, three lists for work, then the saved layers.
 #[derive(Clone, Copy)]
 pub struct Frame {
     pub lo: i64,
     pub hi: i64,
     pub states: usize,
     pub levels: usize,
+    layers: usize,
 }
 
 impl Frame {
     pub fn of(plan: &Plan) -> Frame {
+        Frame::of_table(plan, 1)
+    }
+
+    /// The frame of a table of so many entries.
+    pub fn of_table(plan: &Plan, entries: usize) -> Frame {
         Frame {
             lo: plan.lo,
             hi: plan.hi,
             states: plan.states,
             levels: plan.levels(),
+            layers: 2 * entries,
         }
     }
 
@@ -31,7 +38,7 @@ impl Frame {
     }
 
     fn temp(self, i: usize) -> usize {
-        2 * self.layer_words() + i * P * self.levels
+        self.layers * self.layer_words() + i * P * self.levels
     }
 
     /// Where the saved layers begin.
@@ -40,7 +47,7 @@ impl Frame {
     }
 
     pub fn words(self) -> usize {
-        192 * self.states * self.levels
+        96 * self.layers * self.states * self.levels
     }
 }
 
@@ -120,9 +127,33 @@ fn take_down(ws: &mut [u64], fr: Frame, t: Temps, f: usize, gap: i64, penalty: i
     take(ws, fr, t, t.two, penalty)
 }
 
-/// List (k, s) at dst from the layer at cur over one boundary, then the loss of x.
+/// The layers that stays and changes lead from; none where nothing has so many changes.
+#[derive(Clone, Copy)]
+pub struct Sources {
+    pub stays: Option<usize>,
+    pub changes: Option<usize>,
+}
+
+impl Sources {
+    /// In a search both lead from one layer.
+    pub fn one(cur: usize) -> Sources {
+        Sources {
+            stays: Some(cur),
+            changes: Some(cur),
+        }
+    }
+
+    fn of(self, kind: Kind) -> Option<usize> {
+        match kind {
+            Kind::Stay => self.stays,
+            _ => self.changes,
+        }
+    }
+}
+
+/// List (k, s) at dst over one boundary, then the loss of x.
 #[allow(clippy::too_many_arguments)]
-fn next_list(ws: &mut [u64], fr: Frame, plan: &Plan, mode: Mode, cur: usize, dst: usize, k: usize, s: usize, x: i64) {
+fn next_list(ws: &mut [u64], fr: Frame, plan: &Plan, mode: Mode, from: Sources, dst: usize, k: usize, s: usize, x: i64) {
     let mut t = Temps {
         acc: fr.temp(0),
         one: fr.temp(1),
@@ -131,7 +162,7 @@ fn next_list(ws: &mut [u64], fr: Frame, plan: &Plan, mode: Mode, cur: usize, dst
     write_constant(ws, t.acc, NONE, fr.hi);
     for e in &plan.edges {
         if e.to == s {
-            if let Some(before) = count_before(mode, k, e.kind) {
+            if let (Some(before), Some(cur)) = (count_before(mode, k, e.kind), from.of(e.kind)) {
                 t = take_edge(ws, fr, t, e.kind, fr.list(cur, before, e.from), e.penalty());
             }
         }
@@ -139,12 +170,12 @@ fn next_list(ws: &mut [u64], fr: Frame, plan: &Plan, mode: Mode, cur: usize, dst
     add_loss(ws, t.acc, dst, x, fr.hi);
 }
 
-/// The layer at `next` after a boundary, from the layer at `cur`; x is the reading after the boundary.
-pub fn next_layer(ws: &mut [u64], fr: Frame, plan: &Plan, boundary: usize, cur: usize, next: usize, x: i64) {
+/// The layer at `next` after a boundary; x is the reading after the boundary.
+pub fn next_layer(ws: &mut [u64], fr: Frame, plan: &Plan, boundary: usize, from: Sources, next: usize, x: i64) {
     let mode = mode_at(plan, boundary);
     for k in 0..counts_at(plan, boundary + 1) {
         for s in 0..fr.states {
-            next_list(ws, fr, plan, mode, cur, fr.list(next, k, s), k, s, x);
+            next_list(ws, fr, plan, mode, from, fr.list(next, k, s), k, s, x);
         }
     }
 }

@@ -13,6 +13,7 @@ mod page;
 mod piece;
 mod saved;
 mod search;
+mod tables;
 
 use shared::options::{program, wrong, Opt};
 use std::process::ExitCode;
@@ -73,6 +74,12 @@ fn run(repeats: usize, with_worst: bool, only: &str, page: Option<&str>) -> Exit
         |moving| &moving.case.name,
         |moving| moving::measure(moving, repeats),
     );
+    let tables = measure_all(
+        cases::tabled(),
+        only,
+        |tabled| &tabled.case.name,
+        |tabled| tables::measure(tabled, repeats),
+    );
     let decoding = measure_all(
         cases::decoding(),
         only,
@@ -80,7 +87,15 @@ fn run(repeats: usize, with_worst: bool, only: &str, page: Option<&str>) -> Exit
         |decoding| decoding::measure(decoding, repeats),
     );
     let worst = if with_worst { searches(cases::worst(), 1) } else { vec![] };
-    let text = page::write(&usual, &growing, &worst, &moving, &decoding);
+    let rows = page::Rows {
+        usual,
+        growing,
+        worst,
+        moving,
+        tables,
+        decoding,
+    };
+    let text = page::write(&rows);
     print!("{text}");
     if let Some(path) = page {
         if let Err(error) = std::fs::write(path, with_notes(&text, path)) {

@@ -13,6 +13,14 @@ pub struct Times {
     pub dense: f64,
 }
 
+impl Times {
+    pub const NONE: Times = Times {
+        proved: f64::MAX,
+        rust: f64::MAX,
+        dense: f64::MAX,
+    };
+}
+
 pub struct Measured {
     pub name: String,
     pub stats: Stats,
@@ -52,12 +60,7 @@ pub fn measure(case: &Case, repeats: usize) -> Measured {
     let (answer, steps) = check(case, &mut b);
     let end = answer.runs[answer.runs.len() - 1];
     let (state, level) = (end.state, end.level);
-    let none = Times {
-        proved: f64::MAX,
-        rust: f64::MAX,
-        dense: f64::MAX,
-    };
-    let (mut whole, mut cost) = (none, none);
+    let (mut whole, mut cost) = (Times::NONE, Times::NONE);
     for _ in 0..repeats {
         time(&mut whole.proved, || yeldaski::search(&b.file, z, &mut b.workspace, &mut b.runs));
         time(&mut whole.rust, || search::search(&mut b.workspace, plan, z));

@@ -2,6 +2,7 @@
 use crate::decoding::Decoded;
 use crate::measure::{Measured, Times};
 use crate::moving::Moved;
+use crate::tables::Table;
 
 const TEXT: &str = "\
 # Benchmark
@@ -23,6 +24,9 @@ least of several runs, the programmes by turns in one process. Times are millise
   the Rust version.
 - **moving window**: `yeldaski_windows`, against one pass forward for each part in Rust. Times are nanoseconds for each reading handed to a search: the
   time divided by parts × w. **pass**: one pass over the same record (of the long one its first 4,096 readings), as in cost only, divided by its readings.
+- **costs for each number of changes**: `yeldaski_table` for 0 to K changes, against a pass forward in Rust with a layer for each number of changes, and
+  against the dense programme with two rows for each of them. **K + 1 passes**: one pass over the same record, `yeldaski_point` as in cost only,
+  multiplied by K + 1.
 - **decoding**: `yeldaski_read_plan`, which reads the plan too, against two loops over the bytes of the readings in Rust: as one writes it, and with a
   test for the sign that the compiler cannot remove.
 ";
@@ -72,6 +76,19 @@ fn windows(rows: &[Moved]) -> String {
     text
 }
 
+fn tables(rows: &[Table]) -> String {
+    if rows.is_empty() {
+        return String::new();
+    }
+    let mut text = String::from("\n## Costs for each number of changes, n = 1,024\n\n");
+    text += "| case | proved | Rust | dense | proved / Rust | dense / proved | K + 1 passes | proved / passes |\n";
+    text += "|---|---|---|---|---|---|---|---|\n";
+    for Table { name, times: t, passes } in rows {
+        text += &format!("| {name} | {} | {passes:.2} | {} |\n", times(t), ratio(t.proved, *passes));
+    }
+    text
+}
+
 fn decoding(rows: &[Decoded]) -> String {
     if rows.is_empty() {
         return String::new();
@@ -98,14 +115,25 @@ fn pieces(rows: &[&Measured]) -> String {
     text
 }
 
-pub fn write(usual: &[Measured], growing: &[Measured], worst: &[Measured], moving: &[Moved], decoded: &[Decoded]) -> String {
+/// All that was measured.
+pub struct Rows {
+    pub usual: Vec<Measured>,
+    pub growing: Vec<Measured>,
+    pub worst: Vec<Measured>,
+    pub moving: Vec<Moved>,
+    pub tables: Vec<Table>,
+    pub decoding: Vec<Decoded>,
+}
+
+pub fn write(rows: &Rows) -> String {
     let mut text = String::from(TEXT);
-    text += &table("Whole search, n = 4,096", "case", usual, |row| &row.whole);
-    text += &table("Cost only, n = 4,096", "case", usual, |row| &row.cost);
-    text += &table("How a whole search grows", "case", growing, |row| &row.whole);
-    text += &table("Worst known records, whole search, n = 4,096", "case", worst, |row| &row.whole);
-    text += &windows(moving);
-    text += &decoding(decoded);
-    let all: Vec<&Measured> = usual.iter().chain(worst).collect();
+    text += &table("Whole search, n = 4,096", "case", &rows.usual, |row| &row.whole);
+    text += &table("Cost only, n = 4,096", "case", &rows.usual, |row| &row.cost);
+    text += &table("How a whole search grows", "case", &rows.growing, |row| &row.whole);
+    text += &table("Worst known records, whole search, n = 4,096", "case", &rows.worst, |row| &row.whole);
+    text += &windows(&rows.moving);
+    text += &tables(&rows.tables);
+    text += &decoding(&rows.decoding);
+    let all: Vec<&Measured> = rows.usual.iter().chain(&rows.worst).collect();
     text + &pieces(&all)
 }

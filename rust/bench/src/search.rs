@@ -38,7 +38,7 @@ fn begin<'a>(ws: &mut [u64], fr: Frame, plan: &Plan, z: &[i16], saved: &'a mut S
 }
 
 fn step(ws: &mut [u64], fr: Frame, plan: &Plan, z: &[i16], wk: &mut Walk) {
-    next_layer(ws, fr, plan, wk.time, wk.cur, wk.other, z[wk.time] as i64);
+    next_layer(ws, fr, plan, wk.time, Sources::one(wk.cur), wk.other, z[wk.time] as i64);
     std::mem::swap(&mut wk.cur, &mut wk.other);
     wk.time += 1;
     wk.steps += 1;
@@ -177,6 +177,35 @@ pub fn windows(ws: &mut [u64], plan: &Plan, z: &[i16], w: usize) -> Vec<i64> {
         best_end(ws, fr, plan, wk.cur).value
     });
     let costs = costs.collect();
+    ws.fill(0);
+    costs
+}
+
+/// The least cost for each number of changes up to `most`: a layer for each of them, from which stays lead to the same number and changes to the next.
+/// The workspace is cleared, as the proved call does.
+pub fn table(ws: &mut [u64], plan: &Plan, z: &[i16], most: usize) -> Vec<Option<i64>> {
+    let fr = Frame::of_table(plan, most + 1);
+    assert!(fr.words() <= ws.len());
+    let size = fr.layer_words();
+    let (mut cur, mut next) = (0, (most + 1) * size);
+    first_layer(ws, fr, plan, cur, z[0] as i64);
+    for (i, x) in z.iter().enumerate().skip(1) {
+        for k in 0..=most.min(i) {
+            let from = Sources {
+                // after i readings there are at most i - 1 changes
+                stays: (k < i).then_some(cur + k * size),
+                changes: k.checked_sub(1).map(|before| cur + before * size),
+            };
+            next_layer(ws, fr, plan, i, from, next + k * size, *x as i64);
+        }
+        std::mem::swap(&mut cur, &mut next);
+    }
+    let cost = |k: usize| {
+        (k < z.len())
+            .then(|| best_end(ws, fr, plan, cur + k * size).value)
+            .filter(|cost| *cost < NONE)
+    };
+    let costs = (0..=most).map(cost).collect();
     ws.fill(0);
     costs
 }

@@ -4,7 +4,7 @@ use crate::check::counted;
 use crate::failure::sentence;
 use crate::label::{Label, MOST_CHANGES, ONE_DOWN, ONE_UP};
 use crate::locate::{agrees, is_cut, locate, Kind, Place};
-use crate::plan::{edge_of, with_c, with_grid, with_labels, with_masks, Edge, Plan, KINDS, MAX_READINGS, MAX_RECORD, MAX_WINDOW};
+use crate::plan::{edge_of, with_c, with_grid, with_labels, with_masks, Edge, Plan, KINDS, MAX_CHANGES, MAX_READINGS, MAX_RECORD, MAX_WINDOW};
 use crate::rules::permits;
 use shared::fields::{number, signed, Field};
 use yeldaski::Refusal;
@@ -70,6 +70,15 @@ pub fn of_windows(count: usize, w: usize, refusal: Refusal) -> String {
         18 => "a moving window takes a plan without labels: --no-labels leaves them out".to_string(),
         19 if w > count && w <= MAX_WINDOW => format!("a window of {w} readings, but the record has {count}: choose --window from 1 to {room}"),
         19 => format!("a window of {}: choose --window from 1 to {room}", counted(w, "reading")),
+        _ => sentence(refusal).to_string(),
+    }
+}
+
+/// Why a table for up to `most` changes over a record of `count` readings is refused by a number that no search has, or has in other words.
+pub fn of_table(count: usize, most: usize, refusal: Refusal) -> String {
+    match refusal.0 {
+        9 => of_record(count),
+        20 => format!("a table for {most} changes: choose K from 0 to {MAX_CHANGES}"),
         _ => sentence(refusal).to_string(),
     }
 }

@@ -1,6 +1,6 @@
 //! The commands of the program: the one source of parsing, help, man page and shell completion.
 use crate::failure::{quoted, usage, Failure};
-use crate::{check, find, help, make, plot, run, show, verify, windows};
+use crate::{check, find, help, make, plot, run, show, table, verify, windows};
 use shared::options::{did_you_mean, Args, Opt, HELP};
 
 pub struct Command {
@@ -55,9 +55,14 @@ const NO_HEADER: Opt = Opt::flag(
 const NO_LABELS: Opt = Opt::flag("no-labels", "leave out the labels of the text, which may speak of its own record alone");
 const TITLE: Opt = Opt::with("title", "TEXT", "the title of the picture");
 const UNIT: Opt = Opt::with("unit", "TEXT", "the unit of the current, for the axis of the picture");
+const SQUARED_UNIT: Opt = Opt::with(
+    "unit",
+    "TEXT",
+    "the unit of the current; the axis of the picture names its square, as costs are squares",
+);
 const SIZE: Opt = Opt::with("size", "WxH", "width and height of the picture, as 800x400");
 
-pub const COMMANDS: [Command; 11] = [
+pub const COMMANDS: [Command; 12] = [
     Command {
         name: "find",
         about: "find the changes of records by a plan text, in one step",
@@ -102,17 +107,33 @@ pub const COMMANDS: [Command; 11] = [
             Opt::with("format", "FORMAT", "table (without the option: a summary), csv or json (every stretch)").among(&FORMATS),
             Opt::with("plot", "FILE", "also draw the cost over the start of the stretch to this SVG file"),
             TITLE,
-            Opt::with(
-                "unit",
-                "TEXT",
-                "the unit of the current; the axis of the picture names its square, as costs are squares",
-            ),
+            SQUARED_UNIT,
             SIZE,
             Opt::with("jobs", "N", "search so many sections of the record at a time (without it: 1)"),
             OUTPUT,
         ],
         text: include_str!("help/windows.txt"),
         act: windows::act,
+    },
+    Command {
+        name: "table",
+        about: "give the least cost for each number of changes",
+        usage: "table PLAN [RECORD] [K] [OPTIONS]",
+        files: 3,
+        options: &[
+            COLUMN,
+            HEADER,
+            NO_HEADER,
+            Opt::flag("no-labels", "leave out the labels of the plan, which may speak of its own record alone"),
+            Opt::with("format", "FORMAT", "table (without the option), csv or json").among(&FORMATS),
+            Opt::with("plot", "FILE", "also draw the cost over the number of changes to this SVG file"),
+            TITLE,
+            SQUARED_UNIT,
+            SIZE,
+            OUTPUT,
+        ],
+        text: include_str!("help/table.txt"),
+        act: table::act,
     },
     Command {
         name: "make",

@@ -197,6 +197,25 @@ fn json_members([record, cost, refusal, sentence]: [String; 4], runs: &[String],
     format!("{blanks}{{\n{}\n{blanks}}}", lines.join(",\n"))
 }
 
+/// An object with the list `records`, as `find` writes one, with one record of these members.
+pub fn json_one_record(members: &[(&str, String)]) -> String {
+    let lines: Vec<String> = members.iter().map(|(name, value)| format!("      \"{name}\": {value}")).collect();
+    format!("{{\n  \"records\": [\n    {{\n{}\n    }}\n  ]\n}}\n", lines.join(",\n"))
+}
+
+/// The members of a record's list, each in a line of its own.
+pub fn json_list(objects: &[String]) -> String {
+    match objects {
+        [] => "[]".to_string(),
+        objects => format!("[\n        {}\n      ]", objects.join(",\n        ")),
+    }
+}
+
+/// A number, or null where there is none.
+pub fn json_number(number: Option<impl ToString>) -> String {
+    number.map_or("null".to_string(), |number| number.to_string())
+}
+
 pub fn json_text(text: &str) -> String {
     let escaped = |c: char| match c {
         '"' => "\\\"".to_string(),

@@ -62,6 +62,7 @@ pub fn sentence(refusal: Refusal) -> &'static str {
         17 => "a run or a refusal number of the answer is wrong",
         18 => "a moving window takes a plan without labels",
         19 => "a window has 1 to 1024 readings, and no more than the record",
+        20 => "a table has at most 32 changes",
         _ => "not a refusal of this library",
     }
 }

@@ -162,24 +162,13 @@ impl Task<'_> {
             }
             // The plan file has no room for a very long record, so the readings are counted here.
             Answer::Refused(Refusal(9)) => Some(cause::of_record(readings.len())),
-            Answer::Refused(refusal) => self.cause(&plan_file, *refusal),
+            Answer::Refused(refusal) => make::search_cause(Some(self.text), &plan_file, *refusal),
         };
         let record = Some(name.to_string());
         Ok(Answered {
             file,
             item: Item { record, answer, cause },
             warning,
-        })
-    }
-
-    /// Why a search is refused, with the line of the text where that is a label's.
-    fn cause(&self, plan_file: &[u8], refusal: Refusal) -> Option<String> {
-        let plan = Plan::read(plan_file).ok()?;
-        let (field, cause) = cause::of_search(plan_file, &plan, refusal)?;
-        let label = field.and_then(|field| self.text.labels.get(field.checked_sub(2 + plan.edges.len())?));
-        Some(match label {
-            Some((line, _)) => format!("{cause}; see {}:{line}", self.text.name),
-            None => cause,
         })
     }
 

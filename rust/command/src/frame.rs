@@ -59,8 +59,9 @@ pub fn upright_ticks(frame: &Frame, y: &Scale) -> Vec<i64> {
     y.ticks(((frame.bottom - frame.top) / 40.0).max(3.0) as usize)
 }
 
-/// Both axes with their numbers, and what they count. Number i of the lower axis lies between i - 1 and i on its scale.
-pub fn axes(svg: &mut Svg, frame: &Frame, [x, y]: [&Scale; 2], [across, upright]: [&str; 2]) {
+/// Both axes with their numbers, and what they count. The lower axis counts from `first` on, and its scale from 0: its first number lies between 0
+/// and 1 on the scale.
+pub fn axes(svg: &mut Svg, frame: &Frame, [x, y]: [&Scale; 2], first: i64, [across, upright]: [&str; 2]) {
     let Frame {
         left, right, top, bottom, ..
     } = *frame;
@@ -71,13 +72,15 @@ pub fn axes(svg: &mut Svg, frame: &Frame, [x, y]: [&Scale; 2], [across, upright]
         svg.line([left, y, right, y], "stroke=\"#ccc\" stroke-width=\"0.6\"");
         svg.text(left - 8.0, y + 4.5, &style("end"), &value.to_string());
     }
-    let mut numbers = vec![1];
-    numbers.extend(x.ticks(((right - left) / 79.0) as usize).into_iter().filter(|number| *number > 1));
-    // A first step of 2 or 5 may stand too near to the 1.
-    let near = |number: i64| x.place(number as f64) - x.place(1.0) < 24.0;
-    numbers.retain(|number| *number == 1 || !near(*number));
+    let at = |number: i64| (number - first) as f64 + 0.5;
+    let mut numbers = vec![first];
+    let counted = |number: &i64| *number > first && x.side(at(*number)).is_eq();
+    numbers.extend(x.ticks(((right - left) / 79.0) as usize).into_iter().filter(counted));
+    // A first step of 2 or 5 may stand too near to the first number.
+    let near = |number: i64| x.place(at(number)) - x.place(at(first)) < 24.0;
+    numbers.retain(|number| *number == first || !near(*number));
     for number in numbers {
-        let x = x.place(number as f64 - 0.5);
+        let x = x.place(at(number));
         svg.line([x, foot, x, foot + 5.0], &format!("stroke=\"{INK}\""));
         svg.text(x, foot + 20.0, &style("middle"), &number.to_string());
     }

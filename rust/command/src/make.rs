@@ -1,8 +1,8 @@
 //! `make`: a plan file from a plan text.
-use crate::cause::{cause, of_record};
+use crate::cause::{cause, of_record, of_search};
 use crate::failure::{numbered, quoted, refused, sentence, Failure};
 use crate::locate::{locate, Kind};
-use crate::plan::Edge;
+use crate::plan::{Edge, Plan};
 use crate::records;
 use crate::streams::{check_once, read_text, remember, say, write_binary};
 use crate::text::{self, Source, Text};
@@ -91,6 +91,17 @@ pub fn bytes(text: &Text, readings: &[i16]) -> Vec<u8> {
     }
     file.extend(fields::readings(&plan.readings));
     file
+}
+
+/// Why a search of a plan file is refused, with the line of its text, if it has one, where that is a label's.
+pub fn search_cause(text: Option<&Text>, file: &[u8], refusal: Refusal) -> Option<String> {
+    let plan = Plan::read(file).ok()?;
+    let (field, cause) = of_search(file, &plan, refusal)?;
+    let label = |text: &Text| Some(text.labels.get(field?.checked_sub(2 + plan.edges.len())?)?.0);
+    Some(match text.and_then(|text| Some((text, label(text)?))) {
+        Some((text, line)) => format!("{cause}; see {}:{line}", text.name),
+        None => cause,
+    })
 }
 
 /// A refusal of the proved reader, with the line that made the refused field and the cause in the words of the text.

@@ -108,7 +108,7 @@ pub fn picture(plan: &Plan, outline: &Outline, cost: u64, runs: &[Run], look: &L
         outline,
     };
     chart.labels(&mut svg, plan);
-    axes(&mut svg, &chart.frame, [&chart.x, &chart.y], ["reading", &current(look)]);
+    axes(&mut svg, &chart.frame, [&chart.x, &chart.y], 1, ["reading", &current(look)]);
     chart.changes(&mut svg, &changes);
     chart.readings(&mut svg, &plan.readings);
     chart.levels(&mut svg, runs);

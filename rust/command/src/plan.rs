@@ -8,6 +8,8 @@ pub const MAX_READINGS: usize = 4096;
 /// The most readings of a record for a moving window, and of the window itself. These are for messages: the proved library judges both.
 pub const MAX_RECORD: usize = 65_535;
 pub const MAX_WINDOW: usize = 1024;
+/// The most changes of a table, for messages too, and for how long a table is where nothing is said.
+pub const MAX_CHANGES: usize = 32;
 
 pub const KINDS: [&str; 5] = ["stay", "any", "up", "down", "abs"];
 /// The two of them that a label can ask for.
@@ -103,6 +105,11 @@ impl Plan {
     /// The words that a search of this plan has to be lent.
     pub fn work_words(&self) -> usize {
         yeldaski::work_words(usize::from(self.states), self.levels())
+    }
+
+    /// Those that a table for up to so many changes has to be lent.
+    pub fn table_words(&self, most: usize) -> usize {
+        yeldaski::table_words(usize::from(self.states), self.levels(), most)
     }
 }
 

@@ -80,12 +80,13 @@ pub fn choose_labels(args: &Args, text: &mut Text, records: usize) {
         text.labels.clear();
     }
     if !text.labels.is_empty() && records > 0 && (records > 1 || !text.sources.is_empty()) {
-        let count = text.labels.len();
-        say(&format!(
-            "{}: its labels ({count}) hold for every record here; --no-labels leaves them out",
-            text.name
-        ));
+        say_labels(&text.name, text.labels.len(), "every record");
     }
+}
+
+/// Says that the labels of a plan hold here.
+pub fn say_labels(plan: &str, count: usize, what: &str) {
+    say(&format!("{plan}: its labels ({count}) hold for {what} here; --no-labels leaves them out"));
 }
 
 /// How a record is read: as the options say, and where they are silent, as the text reads its own.

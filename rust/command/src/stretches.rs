@@ -1,6 +1,6 @@
 //! The costs of the stretches of a record, as a table, as CSV and as JSON.
 use crate::check::counted;
-use crate::export::json_text;
+use crate::export::{json_list, json_number, json_one_record, json_text};
 use std::cmp::Reverse;
 
 /// So many of the dearest stretches are named in a table.
@@ -101,27 +101,23 @@ pub struct About<'a> {
 pub fn json(about: &About, costs: &Costs) -> String {
     let object = |Stretch { start, last, cost }: Stretch| format!("{{\"start\": {start}, \"last\": {last}, \"cost\": {cost}}}");
     let objects: Vec<String> = costs.stretches().map(object).collect();
-    let list = format!("[\n        {}\n      ]", objects.join(",\n        "));
-    json_members(about, ["null".to_string(), "null".to_string(), list])
+    json_members(about, ["null".to_string(), "null".to_string(), json_list(&objects)])
 }
 
 /// The same for a record without costs: the number of the refusal where there is one, and the message.
 pub fn json_refused(about: &About, refusal: Option<u8>, sentence: &str) -> String {
-    let number = refusal.map_or("null".to_string(), |number| number.to_string());
-    json_members(about, [number, json_text(sentence), "[]".to_string()])
+    json_members(about, [json_number(refusal), json_text(sentence), json_list(&[])])
 }
 
 fn json_members(about: &About, [refusal, sentence, stretches]: [String; 3]) -> String {
-    let members = [
+    json_one_record(&[
         ("record", json_text(about.record)),
-        ("readings", about.readings.map_or("null".to_string(), |count| count.to_string())),
+        ("readings", json_number(about.readings)),
         ("window", about.window.to_string()),
         ("refusal", refusal),
         ("sentence", sentence),
         ("stretches", stretches),
-    ];
-    let lines = members.map(|(name, value)| format!("      \"{name}\": {value}"));
-    format!("{{\n  \"records\": [\n    {{\n{}\n    }}\n  ]\n}}\n", lines.join(",\n"))
+    ])
 }
 
 #[cfg(test)]

@@ -2,18 +2,14 @@
 use crate::cause;
 use crate::check::counted;
 use crate::cost_picture::cost_picture;
-use crate::csv::Layout;
 use crate::failure::{numbered, quoted, refused, usage, Failure};
-use crate::locate::{wrong_file, Kind};
-use crate::make;
+use crate::given::{Given, Unanswered, Words};
 use crate::outline::in_line;
 use crate::picture::Look;
-use crate::plan::{with_labels, Plan, MAX_WINDOW};
+use crate::plan::MAX_WINDOW;
 use crate::progress::Progress;
-use crate::records;
-use crate::streams::{check_once, check_output, check_writable, read_text, remember, same_place, say, write, Input};
+use crate::streams::{say, write};
 use crate::stretches::{json, json_refused, About, Costs};
-use crate::text::{self, Text};
 use shared::options::Args;
 use std::sync::Mutex;
 use yeldaski::Refusal;
@@ -22,61 +18,40 @@ use yeldaski::Refusal;
 /// together, and enough that what a call does beside its layers does not count.
 const LAYERS: usize = 4096;
 
-/// A plan without its readings: those of the record take their place.
-struct Given<'a> {
-    path: &'a str,
-    name: String,
-    /// None for a plan file.
-    text: Option<Text>,
-    /// The bytes of a plan file. Its readings are not looked at.
-    file: Vec<u8>,
-    plan: Plan,
-}
-
 /// What a call does once its inputs are read.
 struct Task<'a> {
     given: Given<'a>,
-    /// Without one the readings of the plan are taken.
-    record: Option<&'a str>,
     w: usize,
     jobs: usize,
     look: Look,
     picture: Option<String>,
 }
 
-/// Why a record has no costs: with the number of a refusal, or because it cannot be read.
-struct Unanswered {
-    refusal: Option<u8>,
-    sentence: String,
-    failure: Failure,
-}
-
 pub fn act(args: &Args) -> Result<u8, Failure> {
-    let Some((path, words)) = args.files().split_first() else {
+    let [plan, record @ ..] = args.files() else {
         return Err(usage("windows: a plan is missing\nTry 'yeldaski help windows'."));
+    };
+    let words = Words {
+        command: "windows",
+        form: "windows PLAN RECORD --window W",
+        plan,
+        record: record.first().map(String::as_str),
     };
     let w = window(args)?;
     let jobs = args.number("jobs", 1, 256, 1).map_err(|why| usage(format!("windows: {why}")))?;
-    records::check_options(args, !words.is_empty())?;
-    let inputs: Vec<Option<&str>> = args.files().iter().map(|path| Some(path.as_str())).collect();
-    check_once(&inputs)?;
-    let given = Given::read(args, path)?;
+    let given = Given::read(args, words)?;
     let task = Task {
-        look: Look {
-            scale: given.text.as_ref().and_then(|text| text.units.scale),
-            ..Look::of(args)?
-        },
+        look: given.look(args)?,
+        picture: given.picture(args)?,
         given,
-        record: words.first().map(String::as_str),
         w,
         jobs: jobs as usize,
-        picture: records::pictures(args.option("plot"), words, words, path)?.paths.remove(0),
     };
-    let layout = task.given.layout(args, task.record)?;
-    task.check_outputs(args.option("output"))?;
-    let readings = task.readings(&layout);
+    let layout = task.given.layout(args)?;
+    task.given.check_outputs(task.picture.as_deref(), args.option("output"))?;
+    let readings = task.given.readings(&layout);
     let count = readings.as_ref().ok().map(Vec::len);
-    let outcome = readings.map_err(Unanswered::of_failure).and_then(|readings| task.costs(readings));
+    let outcome = readings.map_err(Unanswered::from).and_then(|readings| task.costs(readings));
     task.report(args, count, outcome)
 }
 
@@ -94,101 +69,7 @@ fn window(args: &Args) -> Result<usize, Failure> {
     })
 }
 
-impl<'a> Given<'a> {
-    /// A plan file begins with byte 01, which no text does.
-    fn read(args: &Args, path: &'a str) -> Result<Given<'a>, Failure> {
-        let input = read_text(Some(path))?;
-        match input.bytes.first() {
-            Some(1) => Given::of_file(args, path, input),
-            _ => Given::of_text(args, path, text::parse(&input)?),
-        }
-    }
-
-    fn of_text(args: &Args, path: &'a str, mut text: Text) -> Result<Given<'a>, Failure> {
-        if args.flag("no-labels") {
-            text.labels.clear();
-        }
-        make::files(&text, Some(path)).iter().for_each(|path| remember(path));
-        // One reading stands in for the record, so that the reader judges the rest of the plan.
-        let file = make::bytes(&text, &[0]);
-        let plan = Plan::read(&file).map_err(|refusal| make::at_line(&text, 1, &file, refusal))?;
-        Ok(Given {
-            path,
-            name: text.name.clone(),
-            text: Some(text),
-            file,
-            plan,
-        })
-    }
-
-    fn of_file(args: &Args, path: &'a str, input: Input) -> Result<Given<'a>, Failure> {
-        let plan = Plan::read(&input.bytes).map_err(|refusal| wrong_file(&input, Kind::Plan, refusal))?;
-        let file = match args.flag("no-labels") {
-            true => with_labels(&input.bytes, |_| false),
-            false => input.bytes,
-        };
-        Ok(Given {
-            path,
-            name: input.name,
-            text: None,
-            file,
-            plan,
-        })
-    }
-
-    /// How the record is read. A plan file says nothing of that.
-    fn layout(&self, args: &Args, record: Option<&str>) -> Result<Layout, Failure> {
-        match (&self.text, record) {
-            (Some(text), Some(_)) => records::layout(args, text),
-            (Some(text), None) if text.sources.is_empty() => {
-                let why = "the text has no line 'readings', and no record is named: yeldaski windows PLAN RECORD --window W";
-                Err(refused(format!("{}: {why}", self.name)))
-            }
-            _ => records::of_options(args, Layout::default()),
-        }
-    }
-
-    /// The place that a refusal because of labels is about.
-    fn label_place(&self) -> String {
-        match self.text.as_ref().and_then(|text| text.labels.first()) {
-            Some((line, _)) => format!("{}:{line}", self.name),
-            None => self.name.clone(),
-        }
-    }
-}
-
 impl Task<'_> {
-    /// No output takes the place of an input, or of the other output. That one cannot be written is said before the search, not after it.
-    fn check_outputs(&self, output: Option<&str>) -> Result<(), Failure> {
-        self.record.iter().for_each(|path| remember(path));
-        let picture = self.picture.as_deref();
-        [picture, output].into_iter().try_for_each(check_output)?;
-        match (picture, output) {
-            (Some(picture), Some(output)) if same_place(output, picture) => Err(usage(format!(
-                "windows: the picture and the costs would both be written to {}",
-                quoted(picture)
-            ))),
-            _ => [picture, output].into_iter().try_for_each(check_writable),
-        }
-    }
-
-    /// The name of the record.
-    fn name(&self) -> &str {
-        match self.record.unwrap_or(self.given.path) {
-            "-" => "standard input",
-            path => path,
-        }
-    }
-
-    fn readings(&self, layout: &Layout) -> Result<Vec<i16>, Failure> {
-        match (self.record, &self.given.text) {
-            (Some(path), Some(_)) => records::readings(path, layout),
-            (Some(path), None) => records::readings(path, layout).map_err(beside_a_plan_file),
-            (None, Some(text)) => make::readings(text, Some(self.given.path)),
-            (None, None) => Ok(self.given.plan.readings.clone()),
-        }
-    }
-
     /// The costs, and a warning where most readings lie outside the grid.
     fn costs(&self, readings: Vec<i16>) -> Result<(Costs, Option<String>), Unanswered> {
         let (file, w) = (&self.given.file, self.w);
@@ -199,11 +80,7 @@ impl Task<'_> {
         }
         let mut costs = vec![0; readings.len() + 1 - w];
         self.fill(&readings, &mut costs).map_err(|refusal| self.refused(&readings, refusal))?;
-        let plan = Plan {
-            readings,
-            ..self.given.plan.clone()
-        };
-        Ok((Costs { window: w, costs }, plan.far_off()))
+        Ok((Costs { window: w, costs }, self.given.far_off(readings)))
     }
 
     fn workspace(&self) -> Vec<u64> {
@@ -248,9 +125,9 @@ impl Task<'_> {
     /// A refusal with the file that it is about, its cause and what can be done.
     fn refused(&self, readings: &[i16], refusal: Refusal) -> Unanswered {
         let place = if refusal.0 == 18 {
-            self.given.label_place()
+            self.label_place()
         } else {
-            in_line(self.name())
+            in_line(self.given.record_name())
         };
         let sentence = match refusal.0 {
             16 => self.no_segmentation(&readings[..self.w]),
@@ -263,11 +140,18 @@ impl Task<'_> {
         }
     }
 
+    /// The place that a refusal because of labels is about.
+    fn label_place(&self) -> String {
+        let name = &self.given.name;
+        match self.given.text.as_ref().and_then(|text| text.labels.first()) {
+            Some((line, _)) => format!("{name}:{line}"),
+            None => name.clone(),
+        }
+    }
+
     /// What leaves no segmentation of the first stretch leaves none of any other.
     fn no_segmentation(&self, stretch: &[i16]) -> String {
-        let mut file = vec![0; self.given.file.len() + 2 * stretch.len()];
-        let length = yeldaski::write_plan(&self.given.file, stretch, &mut file).unwrap_or(0);
-        let cause = cause::words(&file[..length], Refusal(16));
+        let cause = cause::words(&self.given.file_with(stretch), Refusal(16));
         format!("stretches of {}: {cause}", counted(stretch.len(), "reading"))
     }
 
@@ -275,7 +159,7 @@ impl Task<'_> {
     fn report(&self, args: &Args, readings: Option<usize>, outcome: Result<(Costs, Option<String>), Unanswered>) -> Result<u8, Failure> {
         let (output, format) = (args.option("output"), args.option("format"));
         let about = About {
-            record: self.name(),
+            record: self.given.record_name(),
             readings,
             window: self.w,
         };
@@ -297,29 +181,9 @@ impl Task<'_> {
         if let Some(path) = &self.picture {
             write(Some(path), cost_picture(&costs, &self.look).as_bytes())?;
         }
-        warning.iter().for_each(|warning| say(&format!("{}: {warning}", in_line(self.name()))));
+        warning
+            .iter()
+            .for_each(|warning| say(&format!("{}: {warning}", in_line(self.given.record_name()))));
         Ok(0)
-    }
-}
-
-/// What is wrong in a record, where advice to add lines to the plan text helps only whoever has one.
-fn beside_a_plan_file(failure: Failure) -> Failure {
-    if !failure.message.contains("the plan text") {
-        return failure;
-    }
-    let hint = "a plan file has no such lines; for them name the plan text in its place";
-    Failure {
-        message: format!("{}; {hint}", failure.message),
-        ..failure
-    }
-}
-
-impl Unanswered {
-    fn of_failure(failure: Failure) -> Unanswered {
-        Unanswered {
-            refusal: None,
-            sentence: failure.reason().to_string(),
-            failure,
-        }
     }
 }

@@ -4,9 +4,10 @@ use common::{folder, program, run};
 use std::fs;
 use std::process::Command;
 
-const COMMANDS: [&str; 11] = [
+const COMMANDS: [&str; 12] = [
     "find",
     "windows",
+    "table",
     "make",
     "run",
     "show",

@@ -16,6 +16,7 @@ fn help_and_version() {
         &["check", "x", "--help"],
         &["plot", "--help"],
         &["windows", "--help"],
+        &["table", "--help"],
     ] {
         let done = run(args, b"");
         assert_eq!((done.status, done.err.as_str()), (0, ""), "{args:?}");

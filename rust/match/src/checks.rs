@@ -7,7 +7,7 @@ use crate::rng::Rng;
 use crate::rules::Rules;
 use crate::search::{self, Record, Run};
 use crate::tally::Tally;
-use crate::{windows, RULES};
+use crate::{tables, windows, RULES};
 
 /// Two answers that are not the same, or a buffer with wrong content.
 pub struct Difference {
@@ -146,7 +146,14 @@ fn broken_plan(asker: &mut Asker, rng: &mut Rng, file: &[u8], number: u8) -> Che
         },
         Call::Windows {
             w: windows::width(rng, readings.len()),
-            record: readings,
+            record: readings.clone(),
+            need: 0,
+            words,
+            room,
+        },
+        Call::Table {
+            readings,
+            most: tables::number_of_changes(rng),
             need: 0,
             words,
             room,
@@ -181,11 +188,15 @@ fn sound_plan(asker: &mut Asker, rng: &mut Rng, file: &[u8], plan: &Plan, readin
     if profile == Profile::Labelled {
         open_points(asker, rng, file, plan, readings)?;
     }
-    windows::ask(asker, rng, file, plan, readings, profile)
+    windows::ask(asker, rng, file, plan, readings, profile)?;
+    for _ in 0..2 {
+        tables::ask(asker, rng, file, plan, readings, profile)?;
+    }
+    Ok(())
 }
 
 /// The record, a part from its start, no reading, or more readings than there may be.
-fn part(rng: &mut Rng, readings: &[i16], most: usize) -> Vec<i16> {
+pub fn part(rng: &mut Rng, readings: &[i16], most: usize) -> Vec<i16> {
     let n = readings.len();
     match rng.below(12) {
         0 if rng.one_in(3) => vec![],
@@ -383,11 +394,21 @@ mod tests {
         every_change_is_found(call, found_bytes(found.cost, &numbers_of(&found.runs)));
         let costs = search::window(RULES, &plan, &record, 2, 1_920, 2).expect("costs");
         let call = Call::Windows {
-            record: readings,
+            record: readings.clone(),
             w: 2,
             need,
             words,
             room: 3,
+        };
+        every_change_is_found(call, windows::cost_bytes(&costs));
+        let costs = search::table(RULES, &plan, &record, 3, 7_680, 4).expect("costs");
+        assert!(costs[2] < u64::MAX && costs[3] == u64::MAX);
+        let call = Call::Table {
+            readings,
+            most: 3,
+            need: 7_680,
+            words: 7_690,
+            room: 6,
         };
         every_change_is_found(call, windows::cost_bytes(&costs));
     }

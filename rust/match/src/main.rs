@@ -6,6 +6,7 @@ mod lent;
 mod program;
 mod proved;
 mod report;
+mod tables;
 mod tally;
 mod windows;
 
@@ -57,11 +58,11 @@ use shared::options::{program, wrong, Args, Opt};
 use std::process::ExitCode;
 use std::time::{Duration, Instant};
 
-/// The first four change requests are in force, of which three change answers: the moving window, the labels that say up, down or several, and kind any,
-/// which has to move the level.
-pub const RULES: rules::Rules = rules::Rules { tickets: 4 };
+/// The first five change requests are in force, of which four change answers: the moving window, the labels that say up, down or several, kind any,
+/// which has to move the level, and the table of costs for each number of changes.
+pub const RULES: rules::Rules = rules::Rules { tickets: 5 };
 
-/// A run of so many cases has to meet labels of every c, and answers in which kind any has to move the level.
+/// A run of so many cases has to meet labels of every c, answers in which kind any has to move the level, and tables of every length and sort.
 const LONG_RUN: u64 = 2_000;
 
 const OPTIONS: [Opt; 3] = [
@@ -78,8 +79,8 @@ struct Options {
 
 fn main() -> ExitCode {
     let about = "Asks the proved library and the oracle the same questions and compares their answers byte for byte.";
-    let end = "\nThe exit status is 0 where all answers are equal, 1 at the first difference or where a long run has not met labels of every c \
-               and answers in which kind any has to move the level, 2 for wrong options.\n";
+    let end = "\nThe exit status is 0 where all answers are equal, 1 at the first difference or where a long run has not met labels of every c, \
+               answers in which kind any has to move the level, and tables of every length and sort, 2 for wrong options.\n";
     match program("match", about, &OPTIONS, end) {
         Ok(args) => options(&args).map_or_else(|message| wrong("match", &message), run),
         Err(status) => status,

@@ -6,7 +6,7 @@ use yeldaski::{Answer, Refusal};
 /// What a call gave, as bytes that can be compared, or its refusal.
 pub type Outcome = Result<Vec<u8>, u8>;
 
-/// A call with all that it is given. `need` is 192 S L.
+/// A call with all that it is given. `need` is 192 S L, for a table (K + 1) times as much.
 #[derive(Clone)]
 pub enum Call {
     Segment {
@@ -29,6 +29,13 @@ pub enum Call {
     Windows {
         record: Vec<i16>,
         w: usize,
+        need: usize,
+        words: usize,
+        room: usize,
+    },
+    Table {
+        readings: Vec<i16>,
+        most: usize,
         need: usize,
         words: usize,
         room: usize,
@@ -79,6 +86,7 @@ impl Call {
             Call::Search { .. } => "search",
             Call::Point { .. } => "point",
             Call::Windows { .. } => "windows",
+            Call::Table { .. } => "table",
             Call::ReadPlan { .. } => "read plan",
             Call::WritePlan { .. } => "write plan",
             Call::ReadAnswer { .. } => "read answer",
@@ -104,7 +112,18 @@ impl Call {
                 need,
                 words,
                 room,
-            } => windows(rng, file, record, *w, *need, *words, *room),
+            } => costs(rng, *need, *words, *room, |workspace, costs| {
+                yeldaski::windows(file, record, *w, workspace, costs)
+            }),
+            Call::Table {
+                readings,
+                most,
+                need,
+                words,
+                room,
+            } => costs(rng, *need, *words, *room, |workspace, costs| {
+                yeldaski::table(file, readings, *most, workspace, costs)
+            }),
             Call::ReadPlan { room } => filled(rng, *room, |out| yeldaski::read_plan(file, out), |z: i16| z.to_be_bytes().to_vec()),
             Call::WritePlan { readings, room } => filled(rng, *room, |out| yeldaski::write_plan(file, readings, out), |b| vec![b]),
             Call::ReadAnswer { room } => read_answer(rng, file, *room),
@@ -151,11 +170,12 @@ fn point(rng: &mut Rng, file: &[u8], readings: &[i16], state: u8, level: i16, ne
     Seen { outcome, fault }
 }
 
-fn windows(rng: &mut Rng, file: &[u8], record: &[i16], w: usize, need: usize, words: usize, room: usize) -> Seen {
+/// A call that is lent a workspace and a list of costs.
+fn costs(rng: &mut Rng, need: usize, words: usize, room: usize, call: impl FnOnce(&mut [u64], &mut [u64]) -> Result<usize, Refusal>) -> Seen {
     let mut workspace = Lent::new(rng, words);
     let mut refusal = None;
     let ask = |costs: &mut [u64]| {
-        let result = yeldaski::windows(file, record, w, &mut workspace.now, costs);
+        let result = call(&mut workspace.now, costs);
         refusal = result.err();
         result
     };

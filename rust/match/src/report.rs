@@ -54,6 +54,9 @@ fn question(call: &Call) -> String {
             format!("{}, state {state}, level {level}, {words} words lent", n(readings))
         }
         Call::Windows { record, w, words, room, .. } => format!("{}, w {w}, {words} words and {room} costs lent", n(record)),
+        Call::Table {
+            readings, most, words, room, ..
+        } => format!("{}, K {most}, {words} words and {room} costs lent", n(readings)),
         Call::ReadPlan { room } => format!("{room} readings lent"),
         Call::WritePlan { readings, room } => format!("{}, {room} bytes lent", n(readings)),
         Call::ReadAnswer { room } => format!("{room} run numbers lent"),
@@ -65,16 +68,14 @@ fn question(call: &Call) -> String {
 
 /// The file of the case; where the call has readings of its own, the plan with those, unless they are more than a plan file holds.
 fn file_of(difference: &Difference) -> Vec<u8> {
-    if let Call::Search { readings, .. } | Call::Point { readings, .. } | Call::Windows { record: readings, .. } | Call::WritePlan { readings, .. } =
-        &difference.call
-    {
-        if let Ok((plan, _)) = files::read_plan(RULES, &difference.file) {
-            if let Ok(file) = files::write_plan(RULES, &plan, &Record::plain(readings), u64::MAX) {
-                return file;
-            }
-        }
-    }
-    difference.file.clone()
+    let readings = match &difference.call {
+        Call::Search { readings, .. } | Call::Point { readings, .. } | Call::Table { readings, .. } => readings,
+        Call::Windows { record: readings, .. } | Call::WritePlan { readings, .. } => readings,
+        _ => return difference.file.clone(),
+    };
+    let with_them = |plan| files::write_plan(RULES, &plan, &Record::plain(readings), u64::MAX);
+    let file = files::read_plan(RULES, &difference.file).and_then(|(plan, _)| with_them(plan));
+    file.unwrap_or_else(|_| difference.file.clone())
 }
 
 pub fn show(difference: &Difference, seed: u64, case: u64, profile: Profile) {

@@ -1,4 +1,6 @@
 //! How often each call was asked, and what it gave.
+use crate::plan::Plan;
+use crate::tables::MOST;
 use std::collections::BTreeMap;
 use std::fmt;
 
@@ -91,10 +93,91 @@ impl fmt::Display for Moves {
     }
 }
 
+/// Tables that were compared.
+pub struct Tables {
+    /// By their K, from 0 to 32.
+    tables: [u64; MOST + 1],
+    entries: u64,
+    /// Entries for which there is no segmentation.
+    none: u64,
+    /// Tables of which that is every entry: only more changes are allowed.
+    all_none: u64,
+    /// Tables with a label, once for each, by its c.
+    labels: [u64; CS],
+}
+
+impl Default for Tables {
+    fn default() -> Tables {
+        Tables {
+            tables: [0; MOST + 1],
+            entries: 0,
+            none: 0,
+            all_none: 0,
+            labels: [0; CS],
+        }
+    }
+}
+
+impl Tables {
+    pub fn add(&mut self, costs: &[u64], plan: &Plan) {
+        let none = costs.iter().filter(|cost| **cost == u64::MAX).count();
+        self.tables[costs.len() - 1] += 1;
+        self.entries += costs.len() as u64;
+        self.none += none as u64;
+        self.all_none += u64::from(none == costs.len());
+        for label in &plan.labels {
+            self.labels[label.code as usize] += 1;
+        }
+    }
+
+    /// What never occurred.
+    pub fn missing(&self) -> Vec<String> {
+        let by_k = self.tables.iter().enumerate().map(|(k, times)| (*times, format!("a table of K = {k}")));
+        let by_c = self
+            .labels
+            .iter()
+            .enumerate()
+            .map(|(c, times)| (*times, format!("a table with a label of c = {c}")));
+        let sorts = [
+            (self.entries - self.none, "an entry of a table with a cost".to_string()),
+            (self.none, "an entry of a table without a segmentation".to_string()),
+            (self.all_none, "a table without a segmentation in any entry".to_string()),
+        ];
+        let missing = by_k.chain(by_c).chain(sorts).filter(|(times, _)| *times == 0);
+        missing.map(|(_, name)| name).collect()
+    }
+}
+
+impl fmt::Display for Tables {
+    fn fmt(&self, f: &mut fmt::Formatter<'_>) -> fmt::Result {
+        let Tables {
+            tables,
+            entries,
+            none,
+            all_none,
+            labels,
+        } = self;
+        writeln!(
+            f,
+            "tables {}, entries {entries}, of them without a segmentation {none}, tables of such entries alone {all_none}",
+            tables.iter().sum::<u64>()
+        )?;
+        for (name, counts) in [("by K", &tables[..]), ("with a label, by c", labels)] {
+            let counts: Vec<String> = counts.iter().enumerate().map(|(number, times)| format!("{number}: {times}")).collect();
+            writeln!(f, "tables {name} {}", counts.join(" "))?;
+        }
+        Ok(())
+    }
+}
+
+/// Refusals that a long run has to meet in tables.
+const OF_TABLES: [u8; 6] = [9, 13, 14, 15, 16, 20];
+
 #[derive(Default)]
 pub struct Tally {
     pub labels: Labels,
     pub moves: Moves,
+    pub tables: Tables,
     cases: BTreeMap<&'static str, u64>,
     calls: BTreeMap<&'static str, Count>,
 }
@@ -106,7 +189,10 @@ impl Tally {
 
     /// What never occurred.
     pub fn missing(&self) -> Vec<String> {
-        [self.labels.missing(), self.moves.missing()].concat()
+        let refused = |number: &u8| self.calls.get("table").is_some_and(|count| count.refused.contains_key(number));
+        let unmet = OF_TABLES.iter().filter(|number| !refused(number));
+        let refusals = unmet.map(|number| format!("a table refused with {number}")).collect();
+        [self.labels.missing(), self.moves.missing(), self.tables.missing(), refusals].concat()
     }
 
     /// One comparison more; 0 stands for an answer.
@@ -130,7 +216,7 @@ impl fmt::Display for Tally {
             writeln!(f)?;
             all += count.answered + count.refused.values().sum::<u64>();
         }
-        write!(f, "{}{}", self.labels, self.moves)?;
+        write!(f, "{}{}{}", self.labels, self.moves, self.tables)?;
         let cases: Vec<String> = self.cases.iter().map(|(name, times)| format!("{name} {times}")).collect();
         write!(
             f,
@@ -144,6 +230,7 @@ impl fmt::Display for Tally {
 #[cfg(test)]
 mod tests {
     use super::*;
+    use crate::{plan, RULES};
 
     #[test]
     fn what_never_occurred_is_named() {
@@ -165,15 +252,56 @@ mod tests {
             windows: 1,
         };
         assert_eq!(moves.missing(), ["points with another answer than before ticket 4"]);
+        let mut all = Tally {
+            labels,
+            moves,
+            tables: every_table(),
+            ..Tally::default()
+        };
+        OF_TABLES.iter().for_each(|number| all.call("table", *number));
+        assert_eq!(all.missing().len(), 4);
+    }
+
+    fn every_table() -> Tables {
+        Tables {
+            tables: [1; MOST + 1],
+            entries: 9,
+            none: 3,
+            all_none: 1,
+            labels: [1; CS],
+        }
+    }
+
+    #[test]
+    fn tables_that_never_occurred_are_named() {
+        assert!(every_table().missing().is_empty());
+        let mut tables = every_table();
+        tables.tables[32] = 0;
+        tables.labels[9] = 0;
+        tables.all_none = 0;
         assert_eq!(
-            Tally {
-                labels,
-                moves,
-                ..Tally::default()
-            }
-            .missing()
-            .len(),
-            4
+            tables.missing(),
+            [
+                "a table of K = 32",
+                "a table with a label of c = 9",
+                "a table without a segmentation in any entry"
+            ]
         );
+        let mut tally = Tally::default();
+        [9, 13, 14, 16, 20].iter().for_each(|number| tally.call("table", *number));
+        tally.call("search", 15);
+        assert!(tally.missing().ends_with(&["a table refused with 15".to_string()]));
+    }
+
+    /// What is counted of one table.
+    #[test]
+    fn a_table_is_counted() {
+        let mut plan = plan::open(RULES, 1, 0, 4, 1, 1, 1).expect("a grid");
+        plan::add_label(RULES, &mut plan, 1, 3, 8).expect("a label");
+        let mut tables = Tables::default();
+        tables.add(&[u64::MAX, 7, u64::MAX], &plan);
+        tables.add(&[u64::MAX], &plan);
+        assert_eq!((tables.tables[0], tables.tables[2], tables.labels[8]), (1, 1, 2));
+        assert_eq!((tables.entries, tables.none, tables.all_none), (4, 3, 1));
     }
 }

@@ -85,7 +85,7 @@ pub fn width(rng: &mut Rng, n: usize) -> usize {
 }
 
 /// The readings of the file from any of them on, again from its first after its last, with other ones near the grid between them.
-fn record(rng: &mut Rng, plan: &Plan, readings: &[i16], n: usize) -> Vec<i16> {
+pub fn record(rng: &mut Rng, plan: &Plan, readings: &[i16], n: usize) -> Vec<i16> {
     let start = rng.below(readings.len() as u64) as usize;
     let near = |z: i64| z.clamp(-32_768, 32_767) as i16;
     let (lo, hi) = (plan.lo as i64, plan.hi as i64);

@@ -41,6 +41,10 @@ mod c {
             file: *const u8, file_len: usize, record: *const i16, record_len: usize, w: usize,
             workspace: *mut u64, workspace_len: usize, costs: *mut u64, costs_len: usize,
         ) -> Outcome;
+        pub fn yeldaski_table(
+            file: *const u8, file_len: usize, readings: *const i16, readings_len: usize, most: usize,
+            workspace: *mut u64, workspace_len: usize, costs: *mut u64, costs_len: usize,
+        ) -> Outcome;
         pub fn yeldaski_read_answer(file: *const u8, file_len: usize, runs: *mut i32, runs_len: usize) -> Reply;
         pub fn yeldaski_write_answer(cost: u64, runs: *const i32, runs_len: usize, out: *mut u8, out_len: usize) -> Outcome;
         pub fn yeldaski_write_refusal(number: u8, out: *mut u8, out_len: usize) -> Outcome;
@@ -102,6 +106,23 @@ pub fn windows(file: &[u8], record: &[i16], w: usize, workspace: &mut [u64], cos
             record.as_ptr(),
             record.len(),
             w,
+            workspace.as_mut_ptr(),
+            workspace.len(),
+            costs.as_mut_ptr(),
+            costs.len(),
+        )
+    }
+}
+
+pub fn table(file: &[u8], readings: &[i16], most: usize, workspace: &mut [u64], costs: &mut [u64]) -> Outcome {
+    // Sound: `file` and `readings` are only read, `workspace` and `costs` are ours alone; every `most` is accepted or refused.
+    unsafe {
+        c::yeldaski_table(
+            file.as_ptr(),
+            file.len(),
+            readings.as_ptr(),
+            readings.len(),
+            most,
             workspace.as_mut_ptr(),
             workspace.len(),
             costs.as_mut_ptr(),

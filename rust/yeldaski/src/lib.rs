@@ -31,6 +31,11 @@ pub fn work_words(states: usize, levels: usize) -> usize {
     states.saturating_mul(levels).saturating_mul(192)
 }
 
+/// The words of 64 bits that a table for 0 to `most` changes needs: as many as [`work_words`] for each number of changes.
+pub fn table_words(states: usize, levels: usize, most: usize) -> usize {
+    work_words(states, levels).saturating_mul(most.saturating_add(1))
+}
+
 /// Decodes the readings of a plan file to the front of `readings` and gives their number.
 ///
 /// Refusals: those of the plan reader, then 15 where `readings` is too short. The rest of `readings`, and on refusal all of it, stays.
@@ -79,6 +84,21 @@ pub fn point(file: &[u8], readings: &[i16], state: u8, level: i16, workspace: &m
 /// has). `workspace` afterwards is as with [`search`].
 pub fn windows(file: &[u8], record: &[i16], w: usize, workspace: &mut [u64], costs: &mut [u64]) -> Result<usize, Refusal> {
     counted(calls::windows(file, record, w, workspace, costs))
+}
+
+/// The costs for each number of changes: for k from 0 to `most` the least cost among the segmentations of `readings` that the plan of `file` allows
+/// and that have exactly k changes, penalties included, and `u64::MAX` where there is none. A change is a boundary with an edge of kind 1 to 4,
+/// inside labels and outside of them. The readings in the file are not looked at.
+///
+/// The numbers for 0, 1, .. `most` changes go to the front of `costs` in this order, and their count, `most` + 1, is given; the rest of `costs`, and
+/// on refusal all of it, stays. The smallest of them is the cost that [`search`] gives wherever its answer has at most `most` changes.
+///
+/// Refusals: those of the plan reader, then 9, 13, 20 (`most` above 32), 14 (`workspace` under [`table_words`]), 15 (`costs` under `most` + 1
+/// numbers), 16 (no segmentation is allowed with any number of changes; where every allowed one has more than `most`, all numbers are `u64::MAX` and
+/// nothing is refused). After success or 16 the first [`table_words`] of `workspace` are zero and the others untouched; after other refusals all are
+/// untouched.
+pub fn table(file: &[u8], readings: &[i16], most: usize, workspace: &mut [u64], costs: &mut [u64]) -> Result<usize, Refusal> {
+    counted(calls::table(file, readings, most, workspace, costs))
 }
 
 /// Reads an answer file; the runs' numbers, five a run, go to the front of `runs`.

@@ -1,7 +1,7 @@
 //! The numbered refusals and their sentences.
 use std::fmt;
 
-/// Why a call was refused: a number from 1 to 19.
+/// Why a call was refused: a number from 1 to 20.
 #[derive(Debug, Clone, Copy, PartialEq, Eq)]
 pub struct Refusal(pub u8);
 
@@ -25,10 +25,12 @@ fn sentence(number: u8) -> &'static str {
         8 => "p = 0, q ≤ p, q above 4,096 or c above 9",
         9 => "no readings or more than 4,096 (for a moving window more than 65,535)",
         10 => "a 33rd edge or a 65th label",
-        11 => "an edge after a label, an addition or sealing after sealing, or a search, point, moving window or writing with an unsealed plan",
+        11 => {
+            "an edge after a label, an addition or sealing after sealing, or a search, point, moving window, table or writing with an unsealed plan"
+        }
         12 => "label starts before the earlier one's q",
         13 => "a label's q above n",
-        14 => "workspace under 192 × S × L words of 64 bits, S the count of states, L = hi − lo + 1",
+        14 => "workspace under 192 × S × L words of 64 bits (for a table K + 1 times as many), S the count of states, L = hi − lo + 1",
         15 => "a buffer under 5 × n run numbers (for the answer reader 5 a run read), or too short for the bytes, readings or costs to be written",
         16 => {
             "no allowed segmentation exists; for a cost at a point, none that it may count (the end set ignored) ends in the named state at \
@@ -41,6 +43,7 @@ fn sentence(number: u8) -> &'static str {
         }
         18 => "a moving window over a plan with labels",
         19 => "a window of 0 readings, of more than 1,024 or of more than the record has",
+        20 => "a table for more than 32 changes",
         _ => "not a refusal of this library",
     }
 }

@@ -44,7 +44,7 @@ fn reading_and_writing_runs() {
 fn reading_and_writing_refusals() {
     for number in 0..=255 {
         let file = field(0x83, &[number]);
-        if (1..=19).contains(&number) {
+        if (1..=20).contains(&number) {
             assert_eq!(write_refusal(number, 4).as_ref(), Ok(&file));
             assert_eq!(write_refusal(number, 9).as_ref(), Ok(&file));
             assert_eq!(write_refusal(number, 3), Err(15));
@@ -89,7 +89,7 @@ fn reader_refuses_in_order() {
     assert_eq!(read_answer(&[&cost[..], &[0x82, 0, 9]].concat(), 0), Err(3));
     // a refused field ends the reading: 17 before what stands behind it
     assert_eq!(read_answer(&[&cost[..], &run_field(2, 2, 0, 3, 255), &[9]].concat(), 0), Err(17));
-    assert_eq!(read_answer(&[&field(0x83, &[20])[..], &[9]].concat(), 0), Err(17));
+    assert_eq!(read_answer(&[&field(0x83, &[21])[..], &[9]].concat(), 0), Err(17));
     // and the end of the file before 15
     assert_eq!(read_answer(&[&whole[..], &[0x82, 0]].concat(), 0), Err(1));
 }

@@ -3,7 +3,7 @@ use std::path::Path;
 use std::process::Command;
 
 const EXPECTED: &str = "\
-most words: 1572864
+most words: 1572864, of a table: 51904512
 readings: refusal 0, cost 0, count 2
 plan: refusal 0, cost 0, count 38
 same: 1
@@ -24,7 +24,17 @@ windows: refusal 0, cost 0, count 1
 1 8 9
 windows: refusal 19, cost 0, count 0
 7 8 9
-none: 1 1 1 1 1 17 15 15 15 9 15 9 14 15 9 14 9 14 15 15
+table: refusal 0, cost 0, count 1
+1 8 9 10
+table: refusal 0, cost 0, count 2
+1 10 9 10
+table: refusal 0, cost 0, count 3
+1 10 none 10
+table: refusal 14, cost 0, count 0
+7 8 9 10
+table: refusal 20, cost 0, count 0
+7 8 9 10
+none: 1 1 1 1 1 1 17 15 15 15 9 15 9 14 15 9 14 9 14 15 9 14 15 15
 read: refusal 1, held 0, cost 0, count 0
 segment: refusal 0, cost 0, count 4
 8300010F

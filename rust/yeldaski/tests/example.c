@@ -5,6 +5,8 @@
 
 /* One state and ten levels. */
 #define WORDS YELDASKI_WORDS(1, 10)
+/* The same for tables of up to two changes. */
+#define TABLE_WORDS YELDASKI_TABLE_WORDS(1, 10, 2)
 
 static const uint8_t plan[] = {0x01, 0, 4, 0, 0, 0, 9, 0x02, 0, 3, 1, 1, 1, 0x03, 0, 6, 0, 0, 0, 0, 0, 0,
                                0x03, 0, 6, 0, 0, 1, 0, 0, 4, 0x05, 0, 4, 0, 3, 0, 4};
@@ -28,6 +30,20 @@ static void moving_window(const int16_t *record, uint64_t *workspace) {
     }
 }
 
+/* Tables for up to 0 to 3 changes, of which the workspace is too short for the last, and for more than there may be. */
+static void numbers_of_changes(const int16_t *readings, uint64_t *workspace) {
+    for (size_t most = 0; most <= 4; most++) {
+        uint64_t costs[4] = {7, 8, 9, 10};
+        yeldaski_outcome o = yeldaski_table(plan, sizeof plan, readings, 2, most < 4 ? most : 33, workspace, TABLE_WORDS, costs, 4);
+        show("table", &o);
+        for (size_t i = 0; i < 4; i++) {
+            if (costs[i] == UINT64_MAX) printf("none");
+            else printf("%llu", (unsigned long long)costs[i]);
+            printf(i < 3 ? " " : "\n");
+        }
+    }
+}
+
 /* NULL with a length of 0 for every list, and for each list of a plan's calls alone. */
 static void no_lists(int16_t *readings, uint64_t *workspace, int32_t *runs) {
     uint8_t out[4];
@@ -38,6 +54,7 @@ static void no_lists(int16_t *readings, uint64_t *workspace, int32_t *runs) {
         yeldaski_search(NULL, 0, NULL, 0, NULL, 0, NULL, 0),
         yeldaski_point(NULL, 0, NULL, 0, 0, 0, NULL, 0),
         yeldaski_windows(NULL, 0, NULL, 0, 0, NULL, 0, NULL, 0),
+        yeldaski_table(NULL, 0, NULL, 0, 0, NULL, 0, NULL, 0),
         yeldaski_write_answer(0, NULL, 0, NULL, 0),
         yeldaski_write_refusal(1, NULL, 0),
         yeldaski_segment(NULL, 0, NULL, 0, NULL, 0, NULL, 0, NULL, 0),
@@ -52,6 +69,9 @@ static void no_lists(int16_t *readings, uint64_t *workspace, int32_t *runs) {
         yeldaski_windows(plan, sizeof plan, NULL, 0, 1, workspace, WORDS, costs, 2),
         yeldaski_windows(plan, sizeof plan, readings, 2, 1, NULL, 0, costs, 2),
         yeldaski_windows(plan, sizeof plan, readings, 2, 1, workspace, WORDS, NULL, 0),
+        yeldaski_table(plan, sizeof plan, NULL, 0, 1, workspace, TABLE_WORDS, costs, 2),
+        yeldaski_table(plan, sizeof plan, readings, 2, 1, NULL, 0, costs, 2),
+        yeldaski_table(plan, sizeof plan, readings, 2, 1, workspace, TABLE_WORDS, NULL, 0),
         yeldaski_write_answer(0, runs, 5, NULL, 0),
     };
     printf("none:");
@@ -64,11 +84,11 @@ static void no_lists(int16_t *readings, uint64_t *workspace, int32_t *runs) {
 }
 
 int main(void) {
-    static uint64_t workspace[WORDS];
+    static uint64_t workspace[TABLE_WORDS];
     int16_t readings[2];
     int32_t runs[10], again[5];
     uint8_t out[64];
-    printf("most words: %zu\n", YELDASKI_WORDS(8, 1024));
+    printf("most words: %zu, of a table: %zu\n", YELDASKI_WORDS(8, 1024), YELDASKI_TABLE_WORDS(8, 1024, 32));
     yeldaski_outcome o = yeldaski_read_plan(plan, sizeof plan, readings, 2);
     show("readings", &o);
     o = yeldaski_write_plan(plan, sizeof plan, readings, 2, out, sizeof out);
@@ -91,6 +111,7 @@ int main(void) {
     show("segment", &o);
     print_bytes(out, o.count);
     moving_window(readings, workspace);
+    numbers_of_changes(readings, workspace);
     no_lists(readings, workspace, runs);
     return 0;
 }

@@ -124,12 +124,14 @@ fn every_call_refuses_a_broken_file_alike() {
         assert_eq!(search(&file, &[1], 0, 500, 50), Err(number), "{file:02X?}");
         assert_eq!(point(&file, &[1], 0, 0, 0, 500), Err(number), "{file:02X?}");
         assert_eq!(windows(&file, &[1], 1, 0, 500, 50), Err(number), "{file:02X?}");
+        assert_eq!(table(&file, &[1], 1, 0, 500, 50), Err(number), "{file:02X?}");
         // no refusal of the call itself comes first
         assert_eq!(read_plan(&file, 0), Err(number));
         assert_eq!(write_plan(&file, &[], 0), Err(number));
         assert_eq!(search(&file, &[], 0, 0, 0), Err(number));
         assert_eq!(point(&file, &[], 9, -1, 0, 0), Err(number));
         assert_eq!(windows(&file, &[], 0, 0, 0, 0), Err(number));
+        assert_eq!(table(&file, &[], 33, 0, 0, 0), Err(number));
     }
 }
 

@@ -9,7 +9,7 @@ use Rattle.finder.proofs.yeldaski_windows.Reads as reads
 use Rattle.finder.proofs.yeldaski_windows.Lts as lts
 use Rattle.files.proofs.answer_number.Reads as answer-number-reads
 use Rattle.files.proofs.read_plan.Reads as read-plan-reads
-use Rattle.finder.proofs.window.Reads as window-reads
+use Rattle.finder.proofs.filled.Reads as filled-reads
 use Rattle.finder.proofs.refused.Reads as refused-reads
 use Rattle.windows.proofs.least_costs.Reads as least-costs-reads
 
@@ -34,8 +34,8 @@ returns c = let h = window-none _ _ (c .before .before .before .before .read-pla
 least-costs-requires : tie.Need-least-costs-requires
 least-costs-requires c κs = search needs
 
-window-requires : tie.Need-window-requires
-window-requires c κs = search needs
+filled-requires : tie.Need-filled-requires
+filled-requires c κs = search needs
 
 same-length : tie.Need-same-length
 same-length c = search needs
@@ -44,7 +44,7 @@ same-length-2 : tie.Need-same-length-2
 same-length-2 c = search needs
 
 returns-2 : tie.Need-returns-2
-returns-2 c = window-some _ _ (c .before .before .before .before .before .before .before .before .before .before .before .read-plan .ensures) (c .before .before .before .before .before .before .before .before .before .enum-told .given .1) (c .before .before .before .before .before .before .before .before .before .before .before .before .before .before .before .args .«record» .now) (c .before .before .before .before .before .before .before .before .before .before .before .before .before .before .before .args .w) (c .before .before .before .before .before .before .before .before .before .before .before .before .before .before .before .args .workspace .now) _ (c .before .before .before .before .before .before .before .before .before .before .before .before .before .before .before .args .costs .now) _ _ _ (c .window .ensures) (c .before .before .before .before .before .least-costs .ensures)
+returns-2 c = window-some _ _ (c .before .before .before .before .before .before .before .before .before .before .before .read-plan .ensures) (c .before .before .before .before .before .before .before .before .before .enum-told .given .1) (c .before .before .before .before .before .before .before .before .before .before .before .before .before .before .before .args .«record» .now) (c .before .before .before .before .before .before .before .before .before .before .before .before .before .before .before .args .w) (c .before .before .before .before .before .before .before .before .before .before .before .before .before .before .before .args .workspace .now) _ (c .before .before .before .before .before .before .before .before .before .before .before .before .before .before .before .args .costs .now) _ _ _ (c .filled .ensures) (c .before .before .before .before .before .least-costs .ensures)
 
 pub yeldaski-windows-spec : {M : Type 1} → statement M
 yeldaski-windows-spec =
@@ -57,7 +57,7 @@ yeldaski-windows-spec =
     refused-requires
     returns
     least-costs-requires
-    window-requires
+    filled-requires
     same-length
     same-length-2
     returns-2)

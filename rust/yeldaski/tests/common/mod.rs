@@ -73,7 +73,15 @@ impl Plan {
     }
 
     pub fn words(&self) -> usize {
-        yeldaski::work_words(self.states as usize, (self.hi as i32 - self.lo as i32 + 1) as usize)
+        yeldaski::work_words(self.states as usize, self.levels())
+    }
+
+    pub fn table_words(&self, most: usize) -> usize {
+        yeldaski::table_words(self.states as usize, self.levels(), most)
+    }
+
+    fn levels(&self) -> usize {
+        (self.hi as i32 - self.lo as i32 + 1) as usize
     }
 }
 
@@ -109,7 +117,8 @@ pub fn dirty<T: Number>(length: usize) -> Vec<T> {
 
 /// The buffer is untouched from this place on.
 fn kept_from<T: Number>(buffer: &[T], from: usize) {
-    assert_eq!(buffer[from..], dirty::<T>(buffer.len())[from..]);
+    let before: Vec<T> = (from..buffer.len()).map(dirt).collect();
+    assert_eq!(buffer[from..], before);
 }
 
 /// The first `need` words are zero, the others untouched.
@@ -140,10 +149,22 @@ pub fn point(file: &[u8], readings: &[i16], state: u8, level: i16, need: usize, 
 
 /// A moving window with so many words and costs lent; `need` as above.
 pub fn windows(file: &[u8], record: &[i16], w: usize, need: usize, words: usize, room: usize) -> Result<Vec<u64>, u8> {
+    costs(need, words, room, |workspace, costs| yeldaski::windows(file, record, w, workspace, costs))
+}
+
+/// A table for 0 to `most` changes with so many words and costs lent; `need` is that of a search times `most` + 1.
+pub fn table(file: &[u8], readings: &[i16], most: usize, need: usize, words: usize, room: usize) -> Result<Vec<u64>, u8> {
+    costs(need, words, room, |workspace, costs| {
+        yeldaski::table(file, readings, most, workspace, costs)
+    })
+}
+
+/// A call that is lent a workspace and a list of costs.
+fn costs(need: usize, words: usize, room: usize, call: impl FnOnce(&mut [u64], &mut [u64]) -> Result<usize, Refusal>) -> Result<Vec<u64>, u8> {
     let mut workspace = dirty(words);
     let mut refusal = None;
     let costs = filled(room, |costs| {
-        let result = yeldaski::windows(file, record, w, &mut workspace, costs);
+        let result = call(&mut workspace, costs);
         refusal = result.err();
         result
     });

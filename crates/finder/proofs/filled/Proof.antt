@@ -1,10 +1,10 @@
 use mathlib.Core.Path.{sym, _∙_, ap}
 use Rattle.finder.specs.Parts.{filledOutcome}
 use borrow.Author.Needs.{needs}
-use Rattle.finder.proofs.window.Statement.{statement}
-use Rattle.finder.proofs.window.Tie as tie
-use Rattle.finder.proofs.window.Reads as reads
-use Rattle.finder.proofs.window.Lts as lts
+use Rattle.finder.proofs.filled.Statement.{statement}
+use Rattle.finder.proofs.filled.Tie as tie
+use Rattle.finder.proofs.filled.Reads as reads
+use Rattle.finder.proofs.filled.Lts as lts
 use Rattle.finder.proofs.counted.Reads as counted-reads
 use Rattle.finder.proofs.refused.Reads as refused-reads
 
@@ -26,7 +26,13 @@ returns c = c .counted .ensures ∙ ap filledOutcome (sym (c .before .before .f 
 returns-2 : tie.Need-returns-2
 returns-2 c = c .refused .ensures ∙ ap filledOutcome (sym (c .before .before .f2 .given .1))
 
-pub window-spec : {M : Type 1} → statement M
-window-spec =
+pub filled-spec : {M : Type 1} → statement M
+filled-spec =
     tie.close
-    (tie.spec enum-known-f counted-requires enum-known-f-2 refused-requires returns returns-2)
+    (tie.spec
+    enum-known-f
+    counted-requires
+    enum-known-f-2
+    refused-requires
+    returns
+    returns-2)

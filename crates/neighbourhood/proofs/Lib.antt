@@ -1,0 +1,5 @@
+pub mod Slots
+pub mod Steps
+pub mod Empty
+pub mod Entries
+pub mod Answers

@@ -1,0 +1,3 @@
+pub mod Neighbourhood
+pub mod Slots
+pub mod Fill
