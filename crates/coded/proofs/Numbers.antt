@@ -1,7 +1,7 @@
 -- Numbers of edges and labels read back, and lists of them one longer. Assumes nothing.
 use mathlib.Core.Path.{_≡_, refl, sym, _∙_, ap}
 use mathlib.Core.Logic.{⊎-elim}
-use mathlib.Core.List.{List, _++_}
+use mathlib.Core.List.{List, [], _∷_, _++_}
 use Prim.Native.Nat.{ℕ, zero, suc, _+_, _-_, _*_, _/_, _%_, _≤_, _<_}
 use native.Mathlib.Omega.{arith}
 use native.Mathlib.Decide.{decLt}
@@ -16,7 +16,7 @@ use Rattle.plan.specs.Build.{kindNumber, gapOf}
 use Rattle.plan.proofs.ByNumber.{no-kind}
 use Rattle.integers.specs.Rep.{le-or-lt}
 use Rattle.model.specs.Model.{edgeAt, labelAt}
-use Rattle.coded.specs.Coded.{kindWith, edgeIn, labelIn, edgeNumber, labelNumber, EdgesFrom, LabelsFrom, Numbered, listed, codeOf}
+use Rattle.coded.specs.Coded.{kindWith, edgeIn, labelIn, edgeNumber, labelNumber, EdgesFrom, LabelsFrom, Numbered, listed, codeOf, Written}
 
 kind-back : (k : Kind) → kindWith (kindNumber k) (gapOf k) ≡ k
 kind-back Stay = refl
@@ -84,7 +84,7 @@ label-read w = refl
 
 -- ---- one more in the list
 
-pub edges-none : (P : Plan) (code : List ℕ) → length code ≡ 96 → EdgesFrom P 0 code
+pub edges-none : (P : Plan) (code : List ℕ) → length code ≡ 98 → EdgesFrom P 0 code
 edges-none P code z = record { size = z; edges = λ i h. absurd (omega arith) }
 
 pub edges-more : (P : Plan) (n w : ℕ) (code : List ℕ) → n < 32 → EdgesFrom P n code → edgeIn w ≡ edgeAt P n → EdgesFrom P (n + 1) (set code n w)
@@ -119,7 +119,7 @@ labels-more P n w code h f e = record {
 pub numbered-none : (P : Plan) (code : List ℕ) → Numbered P 0 0 code
 numbered-none P code = record { edge = λ i h. absurd (omega arith); label = λ i h. absurd (omega arith) }
 
-pub numbered-edge : (P : Plan) (n w : ℕ) (code : List ℕ) → n < 32 → length code ≡ 96 → Numbered P n 0 code → w ≡ edgeNumber (edgeAt P n) → Numbered P (n + 1) 0 (set code n w)
+pub numbered-edge : (P : Plan) (n w : ℕ) (code : List ℕ) → n < 32 → length code ≡ 98 → Numbered P n 0 code → w ≡ edgeNumber (edgeAt P n) → Numbered P (n + 1) 0 (set code n w)
 numbered-edge P n w code h z f e = record { edge = λ i g. go i g (decLt i n); label = λ i g. absurd (omega arith) }
   where
     go : (i : ℕ) → i < n + 1 → Dec (i < n) → getD (set code n w) i 0 ≡ edgeNumber (edgeAt P i)
@@ -128,7 +128,7 @@ numbered-edge P n w code h z f e = record { edge = λ i g. go i g (decLt i n); l
         let q : i ≡ n = omega arith in
         ap (λ (k : ℕ). getD (set code n w) k 0) q ∙ getD-set-same code n w 0 (omega arith) ∙ e ∙ ap (λ (k : ℕ). edgeNumber (edgeAt P k)) (sym q)
 
-pub numbered-label : (P : Plan) (n w : ℕ) (code : List ℕ) → n < 64 → length code ≡ 96 → Numbered P 32 n code → w ≡ labelNumber (labelAt P n) → Numbered P 32 (n + 1) (set code (32 + n) w)
+pub numbered-label : (P : Plan) (n w : ℕ) (code : List ℕ) → n < 64 → length code ≡ 98 → Numbered P 32 n code → w ≡ labelNumber (labelAt P n) → Numbered P 32 (n + 1) (set code (32 + n) w)
 numbered-label P n w code h z f e = record { edge = λ i g. getD-set-other code (32 + n) i w 0 (λ q. omega arith) ∙ f .edge i g; label = λ i g. go i g (decLt i n) }
   where
     go : (i : ℕ) → i < n + 1 → Dec (i < n) → getD (set code (32 + n) w) (32 + i) 0 ≡ labelNumber (labelAt P i)
@@ -148,8 +148,8 @@ listed-get f i zero k j e h = absurd (omega arith)
 listed-get f i (suc n) zero j e h = let q : i ≡ j = omega arith in ap f q
 listed-get f i (suc n) (suc k) j e h = listed-get f (i + 1) n k j (omega arith) (omega arith)
 
-pub numbered-is : (P : Plan) (code : List ℕ) → length code ≡ 96 → Numbered P 32 64 code → code ≡ codeOf P
-numbered-is P code z f = ext-getD 0 code (codeOf P) (z ∙ sym size) same
+numbered-is : (P : Plan) (code : List ℕ) → length code ≡ 98 → Numbered P 32 64 code → getD code 96 0 ≡ P .edgecount → getD code 97 0 ≡ P .labelcount → code ≡ codeOf P
+numbered-is P code z f e l = ext-getD 0 code (codeOf P) (z ∙ sym size) same
   where
     edges : List ℕ
     edges = listed (λ (i : ℕ). edgeNumber (edgeAt P i)) 0 32
@@ -157,14 +157,20 @@ numbered-is P code z f = ext-getD 0 code (codeOf P) (z ∙ sym size) same
     labels : List ℕ
     labels = listed (λ (i : ℕ). labelNumber (labelAt P i)) 0 64
 
+    two : List ℕ
+    two = P .edgecount ∷ P .labelcount ∷ []
+
     n : length edges ≡ 32
     n = listed-length (λ (i : ℕ). edgeNumber (edgeAt P i)) 0 32
 
-    size : length (edges ++ labels) ≡ 96
-    size = length-append edges labels ∙ omega (arith, n, listed-length (λ (i : ℕ). labelNumber (labelAt P i)) 0 64)
+    m : length (edges ++ labels) ≡ 96
+    m = length-append edges labels ∙ omega (arith, n, listed-length (λ (i : ℕ). labelNumber (labelAt P i)) 0 64)
 
-    same : (i : ℕ) → i < length code → getD code i 0 ≡ getD (edges ++ labels) i 0
-    same i h = go (decLt i 32)
+    size : length (codeOf P) ≡ 98
+    size = length-append (edges ++ labels) two ∙ omega (arith, m)
+
+    front : (i : ℕ) → i < 96 → getD code i 0 ≡ getD (edges ++ labels) i 0
+    front i h = go (decLt i 32)
       where
         go : Dec (i < 32) → getD code i 0 ≡ getD (edges ++ labels) i 0
         go (yes d) = f .edge i d ∙ sym (listed-get (λ (k : ℕ). edgeNumber (edgeAt P k)) 0 32 i i (omega arith) d) ∙ sym (List·getD-append edges labels 0 i (omega (arith, n)))
@@ -173,3 +179,44 @@ numbered-is P code z f = ext-getD 0 code (codeOf P) (z ∙ sym size) same
             let e : length edges + (i - 32) ≡ i = omega (arith, n) in
             ap (λ (k : ℕ). getD code k 0) (sym q) ∙ f .label (i - 32) (omega arith) ∙ sym (listed-get (λ (k : ℕ). labelNumber (labelAt P k)) 0 64 (i - 32) (i - 32) (omega arith) (omega arith))
             ∙ sym (getD-append-add edges labels (i - 32) 0) ∙ ap (λ (k : ℕ). getD (edges ++ labels) k 0) e
+
+    -- the counts, which stand after the rest
+    behind : (i j : ℕ) → i ≡ 96 + j → getD code (96 + j) 0 ≡ getD two j 0 → getD code i 0 ≡ getD (codeOf P) i 0
+    behind i j q h =
+        let w : length (edges ++ labels) + j ≡ i = omega (arith, m) in
+        ap (λ (k : ℕ). getD code k 0) q ∙ h ∙ sym (getD-append-add (edges ++ labels) two j 0) ∙ ap (λ (k : ℕ). getD (codeOf P) k 0) w
+
+    same : (i : ℕ) → i < length code → getD code i 0 ≡ getD (codeOf P) i 0
+    same i h = go (decLt i 96) (decLt i 97)
+      where
+        go : Dec (i < 96) → Dec (i < 97) → getD code i 0 ≡ getD (codeOf P) i 0
+        go (yes d) d′ = front i d ∙ sym (List·getD-append (edges ++ labels) two 0 i (omega (arith, m)))
+        go (no d) (yes d′) = behind i 0 (omega arith) e
+        go (no d) (no d′) = behind i 1 (omega arith) l
+
+-- the counts put behind them
+pub counts-put : (P : Plan) (a b : ℕ) (code : List ℕ) → LabelsFrom P 64 code → Numbered P 32 64 code → a ≡ P .edgecount → b ≡ P .labelcount → Written P (set (set code 96 a) 97 b)
+counts-put P a b code f m ea eb = record {
+  is = numbered-is P code′ size (record { edge = λ i h. same i (omega arith) ∙ m .edge i h; label = λ i h. same (32 + i) (omega arith) ∙ m .label i h }) edges labels;
+  coded = record {
+    front = record { size = size; edges = λ i h. ap edgeIn (same i (omega arith)) ∙ f .front .edges i h };
+    labels = λ i h. ap labelIn (same (32 + i) (omega arith)) ∙ f .labels i h;
+    edge-count = edges;
+    label-count = labels;
+  };
+}
+  where
+    code′ : List ℕ
+    code′ = set (set code 96 a) 97 b
+
+    size : length code′ ≡ 98
+    size = length-set (set code 96 a) 97 b ∙ length-set code 96 a ∙ f .front .size
+
+    same : (i : ℕ) → i < 96 → getD code′ i 0 ≡ getD code i 0
+    same i h = getD-set-other (set code 96 a) 97 i b 0 (λ z. omega arith) ∙ getD-set-other code 96 i a 0 (λ z. omega arith)
+
+    edges : getD code′ 96 0 ≡ P .edgecount
+    edges = getD-set-other (set code 96 a) 97 96 b 0 (λ z. omega arith) ∙ getD-set-same code 96 a 0 (omega (arith, f .front .size)) ∙ ea
+
+    labels : getD code′ 97 0 ≡ P .labelcount
+    labels = getD-set-same (set code 96 a) 97 b 0 (omega (arith, length-set code 96 a, f .front .size)) ∙ eb

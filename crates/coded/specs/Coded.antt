@@ -33,9 +33,9 @@ edgeIn w = record { from = w % 256; to = w / 256 % 256; kind = kindWith (w / 167
 unfoldable pub labelIn : ℕ → Label
 labelIn w = record { p = w % 65536; q = w / 65536 % 65536; c = w / 4294967296 % 256 }
 
--- the first n edges of a plan stand at the front of a list of 96
+-- the first n edges of a plan stand at the front of a list of 98
 pub record EdgesFrom (P : Plan) (n : ℕ) (code : List ℕ) : Type 0 where
-  pub size : length code ≡ 96
+  pub size : length code ≡ 98
   pub edges : (i : ℕ) → i < n → edgeIn (getD code i 0) ≡ edgeAt P i
 
 -- and then its first n labels
@@ -43,18 +43,21 @@ pub record LabelsFrom (P : Plan) (n : ℕ) (code : List ℕ) : Type 0 where
   pub front : EdgesFrom P 32 code
   pub labels : (i : ℕ) → i < n → labelIn (getD code (32 + i) 0) ≡ labelAt P i
 
--- the edges and labels of a plan
-abbrev pub Coded : Plan → List ℕ → Type 0
-Coded P code = LabelsFrom P 64 code
+-- the edges and labels of a plan, and how many there are
+pub record Coded (P : Plan) (code : List ℕ) : Type 0 where
+  pub front : EdgesFrom P 32 code
+  pub labels : (i : ℕ) → i < 64 → labelIn (getD code (32 + i) 0) ≡ labelAt P i
+  pub edge-count : getD code 96 0 ≡ P .edgecount
+  pub label-count : getD code 97 0 ≡ P .labelcount
 
 -- f i, f (i + 1), .., n of them
 unfoldable pub listed : (ℕ → ℕ) → ℕ → ℕ → List ℕ
 listed f i zero = []
 listed f i (suc n) = f i ∷ listed f (i + 1) n
 
--- the list of a plan: the numbers of its 32 edges, then of its 64 labels
+-- the list of a plan: the numbers of its 32 edges, then of its 64 labels, then the two counts
 abbrev pub codeOf : Plan → List ℕ
-codeOf P = listed (λ (i : ℕ). edgeNumber (edgeAt P i)) 0 32 ++ listed (λ (i : ℕ). labelNumber (labelAt P i)) 0 64
+codeOf P = (listed (λ (i : ℕ). edgeNumber (edgeAt P i)) 0 32 ++ listed (λ (i : ℕ). labelNumber (labelAt P i)) 0 64) ++ (P .edgecount ∷ P .labelcount ∷ [])
 
 -- the numbers of the first n edges and of the first m labels stand in the list
 pub record Numbered (P : Plan) (n m : ℕ) (code : List ℕ) : Type 0 where

@@ -1,5 +1,5 @@
-// The edges and labels of a plan as numbers in a lent list, one number each. A plan is handed on by value, which copies its 672 bytes at each
-// call; what a search looks up at every reading stands in such a list instead.
+// The edges and labels of a plan as numbers in a lent list, one number each, and how many there are. A plan is handed on by value, which copies its
+// 672 bytes at each call; what a search looks up at every reading stands in such a list instead, so that a step reads nothing of the plan itself.
 use plan::Edge;
 use plan::Kind;
 use plan::Label;
@@ -7,10 +7,12 @@ use plan::Plan;
 ghost use mathlib.Core.Path.{_≡_};
 ghost use Prim.Native.Nat.{_+_, _<_};
 ghost use lib.ListN.{length, getD};
-ghost use Rattle.coded.specs.Coded.{kindWith, edgeIn, labelIn, edgeNumber, labelNumber, EdgesFrom, Numbered, Written};
+ghost use Rattle.coded.specs.Coded.{kindWith, edgeIn, labelIn, edgeNumber, labelNumber, EdgesFrom, LabelsFrom, Numbered, Written};
 
-// The numbers of a list: 32 edges, then 64 labels.
-pub const SIZE: usize = Plan::MAX_EDGES + Plan::MAX_LABELS;
+// The numbers of a list: 32 edges, then 64 labels, then the two counts.
+const COUNTS_AT: usize = Plan::MAX_EDGES + Plan::MAX_LABELS;
+
+pub const SIZE: usize = COUNTS_AT + 2;
 
 // The kind with this number, at this gap. A number that no kind has stands in no list that `put_plan` wrote; it is read as stay.
 fn kind_with(number: u8, gap: u16) -> Kind
@@ -56,6 +58,22 @@ pub fn label_in(code: &[u64], i: usize) -> Label
     }
 }
 
+// How many edges the plan has.
+pub fn edge_count(code: &[u64]) -> usize
+    requires { ⌜ 96 < length (now code) ⌝ }
+    ensures { λ r. ⌜ r ≡ getD (now (code .entry)) 96 0 ⌝ }
+{
+    code[COUNTS_AT] as usize
+}
+
+// How many labels it has.
+pub fn label_count(code: &[u64]) -> usize
+    requires { ⌜ 97 < length (now code) ⌝ }
+    ensures { λ r. ⌜ r ≡ getD (now (code .entry)) 97 0 ⌝ }
+{
+    code[COUNTS_AT + 1] as usize
+}
+
 // The number of an edge: from, to, class and kind with 8 bits each, lowest first, and the gap above them.
 fn edge_number(e: Edge) -> u64
     ensures { λ r. ⌜ (r ≡ edgeNumber e) × (edgeIn r ≡ e) ⌝ }
@@ -75,7 +93,7 @@ fn label_number(l: Label) -> u64
 }
 
 fn put_edges(plan: Plan, code: &mut [u64])
-    requires { ⌜ length (now code) ≡ 96 ⌝ }
+    requires { ⌜ length (now code) ≡ 98 ⌝ }
     ensures { λ r. ⌜ EdgesFrom plan 32 (now (code .exit)) × Numbered plan 32 0 (now (code .exit)) ⌝ }
 {
     let mut i = 0;
@@ -88,7 +106,7 @@ fn put_edges(plan: Plan, code: &mut [u64])
 
 fn put_labels(plan: Plan, code: &mut [u64])
     requires { ⌜ EdgesFrom plan 32 (now code) × Numbered plan 32 0 (now code) ⌝ }
-    ensures { λ r. ⌜ Written plan (now (code .exit)) ⌝ }
+    ensures { λ r. ⌜ LabelsFrom plan 64 (now (code .exit)) × Numbered plan 32 64 (now (code .exit)) ⌝ }
 {
     let mut i = 0;
     while i < Plan::MAX_LABELS {
@@ -98,11 +116,20 @@ fn put_labels(plan: Plan, code: &mut [u64])
     }
 }
 
+fn put_counts(plan: Plan, code: &mut [u64])
+    requires { ⌜ LabelsFrom plan 64 (now code) × Numbered plan 32 64 (now code) ⌝ }
+    ensures { λ r. ⌜ Written plan (now (code .exit)) ⌝ }
+{
+    code[COUNTS_AT] = plan.edgecount as u64;
+    code[COUNTS_AT + 1] = plan.labelcount as u64;
+}
+
 // The edges and labels of a plan, put in a list.
 pub fn put_plan(plan: Plan, code: &mut [u64])
-    requires { ⌜ length (now code) ≡ 96 ⌝ }
+    requires { ⌜ length (now code) ≡ 98 ⌝ }
     ensures { λ r. ⌜ Written plan (now (code .exit)) ⌝ }
 {
     put_edges(plan, code);
     put_labels(plan, code);
+    put_counts(plan, code);
 }

@@ -91,7 +91,7 @@ pub fn label_on(plan: Plan, code: &[u64], t: usize) -> Cover
     requires { ⌜ Checked plan × Coded plan (now code) ⌝ }
     ensures { λ r. ⌜ labelOf r ≡ labelOn plan t ⌝ }
 {
-    let mut i = plan.labelcount;
+    let mut i = coded::label_count(code);
     while 0 < i {
         i -= 1;
         let l = coded::label_in(code, i);

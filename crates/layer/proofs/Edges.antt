@@ -99,6 +99,10 @@ module _ (o : Option Label) (t : ℕ) (es : List Edge) (k s cur moved : ℕ) (g 
           (w .curve A B C _ (T (changeOf (edgeOf es i .kind))) l b (m .curve A B C F T l b c (λ e he. f e (omega arith))) (λ e. source-kept i h e (f i (omega arith) e)));
     }
 
+-- the count as code reads it
+pub ready-counted : {o : Option Label} {t : ℕ} {es : List Edge} {m n k s cur moved : ℕ} {g : Shape} {ws : List ℕ} {first second work : ℕ} → m ≡ n → EdgesReady o t es n k s cur moved g first second work ws → EdgesReady o t es m k s cur moved g first second work ws
+ready-counted {o} {t} {es} {m} {n} {k} {s} {cur} {moved} {g} {ws} {first} {second} {work} e a = subst (λ (x : ℕ). EdgesReady o t es x k s cur moved g first second work ws) (sym e) a
+
 pub took-all : {o : Option Label} {t : ℕ} {es : List Edge} {i n k s cur moved : ℕ} {g : Shape} {ws ws′ : List ℕ} {first second work r : ℕ} → i ≡ n → TookEdges o t es i k s cur moved g ws ws′ first second work r → TookEdges o t es n k s cur moved g ws ws′ first second work r
 took-all {o} {t} {es} {i} {n} {k} {s} {cur} {moved} {g} {ws} {ws′} {first} {second} {work} {r} e m = subst (λ (x : ℕ). TookEdges o t es x k s cur moved g ws ws′ first second work r) e m
 

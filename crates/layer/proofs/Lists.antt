@@ -22,7 +22,7 @@ use Rattle.edges.specs.Edge.{Off}
 use Rattle.layer.specs.declared.Shape.{Shape}
 use Rattle.layer.specs.Layer.{stepMost, baseOf, listAt, layerWords, ShapeOf, LayerOf, Sources}
 use Rattle.layer.specs.Next.{Task, Beside, NextReady, NextList, Lists, One, OfCount, Counts, Aside, StepReady, Stepped, FirstReady, StartReady}
-use Rattle.layer.proofs.Next.{list-within, used-low}
+use Rattle.layer.proofs.Next.{list-within}
 
 -- ---- places
 

@@ -203,7 +203,7 @@ module _ (P : Plan) (zs : List ℤ) (accepts : searchNumber P (length zs) ≡ 0)
         (d, r′, omega (arith, l, h .le, rank-value P zs g))
 
     -- the least end of that layer is what is listed
-    last-listed : listedWith P zs k ≡ leastEndOf P last
+    pub last-listed : listedWith P zs k ≡ leastEndOf P last
     last-listed = with-is P zs (built-search P (length zs) accepts) k (leastEndOf P last)
         (λ c p. record {
           met = last-met c p;
@@ -250,16 +250,9 @@ pub record Entries (P : Plan) (zs : List ℤ) (most : ℕ) (cs : List ℕ) : Typ
   -- "A user can take the smallest entry as the answer's cost whenever that answer has at most K changes."
   pub smallest : (g : Seg) → First P zs g → changeCount P g ≤ most → leastOf cs ≡ cost P zs g
 
-module _ (P : Plan) (zs : List ℤ) (most : ℕ) (accepts : tableNumber P (length zs) most ≡ 0) (R : Ready P zs) where
-  built-table : planNumber P ≡ 0
+module _ (P : Plan) (zs : List ℤ) (most : ℕ) (accepts : tableNumber P (length zs) most ≡ 0) where
+  pub built-table : planNumber P ≡ 0
   built-table = built-search P (length zs) (accepted-table P (length zs) most accepts .0)
-
-  -- a cost is below the largest word
-  cost-low : (g : Seg) → AllowedWhole P (length zs) g → cost P zs g < mostWord
-  unfolding value
-  cost-low g a =
-      let h : rank P zs g ≤ length zs * (lossMost + penaltyMost) = subst (λ (x : ℕ). rank P zs g ≤ x * (lossMost + penaltyMost)) (a .count) (rank-low P zs (R .plan) lossMost (losses P zs R) g (a .follows)) in
-      omega (arith, h, rank-value P zs g, room (length zs) (R .few-readings))
 
   abbrev list : List ℕ
   list = entries P zs (suc most)
@@ -267,36 +260,48 @@ module _ (P : Plan) (zs : List ℤ) (most : ℕ) (accepts : tableNumber P (lengt
   at : (k : ℕ) → k ≤ most → getD list k 0 ≡ entryOf (listedWith P zs k)
   at k h = entries-at P zs (suc most) k (omega arith)
 
-  met-by : (k : ℕ) → k ≤ most → (getD list k 0 ≡ mostWord → ⊥) → (g : Seg) × AllowedWhole P (length zs) g × (changeCount P g ≡ k) × (cost P zs g ≡ getD list k 0)
+  -- what holds whatever the costs are
+  pub met-by : (k : ℕ) → k ≤ most → (getD list k 0 ≡ mostWord → ⊥) → (g : Seg) × AllowedWhole P (length zs) g × (changeCount P g ≡ k) × (cost P zs g ≡ getD list k 0)
   met-by k h off =
       let (g, a, e, w) = entry-found P zs built-table k (λ p. off (at k h ∙ p)) .met in
       (g, a, e, w ∙ sym (at k h))
 
-  low-at : (g : Seg) (k : ℕ) → AllowedWhole P (length zs) g → changeCount P g ≡ k → k ≤ most → getD list k 0 ≤ cost P zs g
+  pub low-at : (g : Seg) (k : ℕ) → AllowedWhole P (length zs) g → changeCount P g ≡ k → k ≤ most → getD list k 0 ≤ cost P zs g
   low-at g k a e h = omega (arith, at k h, entry-low P zs built-table k g a e)
 
-  -- such an entry is a cost, so it is not the largest word
-  below-word : (g : Seg) (k : ℕ) → AllowedWhole P (length zs) g → changeCount P g ≡ k → k ≤ most → getD list k 0 < mostWord
-  below-word g k a e h = omega (arith, low-at g k a e h, cost-low g a)
+  pub largest-at : (k : ℕ) → k ≤ most → NoneWith P (length zs) k → getD list k 0 ≡ mostWord
+  largest-at k h never = at k h ∙ entry-none P zs built-table k never
 
-  smallest-at : (g : Seg) → First P zs g → changeCount P g ≤ most → leastOf list ≡ cost P zs g
-  smallest-at g f h =
-      let k = changeCount P g in
-      let a : leastOf list ≤ getD list k 0 = least-of-low list k (omega (arith, entries-size P zs (suc most))) in
-      let b : getD list k 0 ≤ cost P zs g = low-at g k (f .allowed) refl h in
-      let (k′, i, e) = least-of-met list (omega (arith, below-word g k (f .allowed) refl h)) in
-      let (g′, a′, e′, w) = met-by k′ (omega (arith, entries-size P zs (suc most))) (λ p. omega (arith, below-word g k (f .allowed) refl h)) in
-      omega (arith, f .cheapest g′ a′)
+  module _ (R : Ready P zs) where
+    -- a cost is below the largest word
+    cost-low : (g : Seg) → AllowedWhole P (length zs) g → cost P zs g < mostWord
+    unfolding value
+    cost-low g a =
+        let h : rank P zs g ≤ length zs * (lossMost + penaltyMost) = subst (λ (x : ℕ). rank P zs g ≤ x * (lossMost + penaltyMost)) (a .count) (rank-low P zs (R .plan) lossMost (losses P zs R) g (a .follows)) in
+        omega (arith, h, rank-value P zs g, room (length zs) (R .few-readings))
 
-  pub entries-right : Entries P zs most (entries P zs (suc most))
-  entries-right = record {
-    size = entries-size P zs (suc most);
-    met = met-by;
-    least = λ g k a e h. (low-at g k a e h, λ p. omega (arith, below-word g k a e h));
-    none-largest = λ k h never. at k h ∙ entry-none P zs built-table k never;
-    largest-none = λ k h p g a e. omega (arith, below-word g k a e h);
-    smallest = smallest-at;
-  }
+    -- such an entry is a cost, so it is not the largest word
+    below-word : (g : Seg) (k : ℕ) → AllowedWhole P (length zs) g → changeCount P g ≡ k → k ≤ most → getD list k 0 < mostWord
+    below-word g k a e h = omega (arith, low-at g k a e h, cost-low g a)
+
+    smallest-at : (g : Seg) → First P zs g → changeCount P g ≤ most → leastOf list ≡ cost P zs g
+    smallest-at g f h =
+        let k = changeCount P g in
+        let a : leastOf list ≤ getD list k 0 = least-of-low list k (omega (arith, entries-size P zs (suc most))) in
+        let b : getD list k 0 ≤ cost P zs g = low-at g k (f .allowed) refl h in
+        let (k′, i, e) = least-of-met list (omega (arith, below-word g k (f .allowed) refl h)) in
+        let (g′, a′, e′, w) = met-by k′ (omega (arith, entries-size P zs (suc most))) (λ p. omega (arith, below-word g k (f .allowed) refl h)) in
+        omega (arith, f .cheapest g′ a′)
+
+    pub entries-right : Entries P zs most (entries P zs (suc most))
+    entries-right = record {
+      size = entries-size P zs (suc most);
+      met = met-by;
+      least = λ g k a e h. (low-at g k a e h, λ p. omega (arith, below-word g k a e h));
+      none-largest = largest-at;
+      largest-none = λ k h p g a e. omega (arith, below-word g k a e h);
+      smallest = smallest-at;
+    }
 
 -- ---- "16 comes exactly where no allowed segmentation exists with any number of changes"
 
@@ -320,13 +325,17 @@ module _ (P : Plan) (zs : List ℤ) (most : ℕ) where
       go (inl (g, e, p)) = inl p
       go (inr (e, p)) = inr p
 
-  -- costs are those of the ticket
-  pub table-entries : tableNumber P (length zs) most ≡ 0 → Ready P zs → (cs : List ℕ) → tableOf P zs most ≡ costList cs → Entries P zs most cs
-  table-entries accepts R cs q = go table-else
+  -- costs are the entries
+  pub table-list : (cs : List ℕ) → tableOf P zs most ≡ costList cs → entries P zs (suc most) ≡ cs
+  table-list cs q = go table-else
     where
-      go : (tableOf P zs most ≡ costList (entries P zs (suc most))) ⊎ (tableOf P zs most ≡ noCosts 16) → Entries P zs most cs
-      go (inl p) = let e : entries P zs (suc most) ≡ cs = cc in subst (λ (x : List ℕ). Entries P zs most x) e (entries-right P zs most accepts R)
+      go : (tableOf P zs most ≡ costList (entries P zs (suc most))) ⊎ (tableOf P zs most ≡ noCosts 16) → entries P zs (suc most) ≡ cs
+      go (inl p) = cc
       go (inr p) = let z : _≡_ {A = ℕ} 0 1 = cc in absurd (omega arith)
+
+  -- those of the ticket
+  pub table-entries : tableNumber P (length zs) most ≡ 0 → Ready P zs → (cs : List ℕ) → tableOf P zs most ≡ costList cs → Entries P zs most cs
+  table-entries accepts R cs q = subst (λ (x : List ℕ). Entries P zs most x) (table-list cs q) (entries-right P zs most accepts R)
 
   module _ (built : planNumber P ≡ 0) where
     pub table-16 : tableOf P zs most ≡ noCosts 16 → NoneAllowed P (length zs)

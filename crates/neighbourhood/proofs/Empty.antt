@@ -1,8 +1,8 @@
 -- Slot 0, list by list, and the slots after the first reading. Assumes nothing.
 use mathlib.Core.Path.{_≡_, refl, sym, _∙_, ap, subst}
-use mathlib.Core.Logic.{_⊎_, inl, inr, ⊎-elim}
+use mathlib.Core.Logic.{_⊎_, inl, ⊎-elim}
 use mathlib.Core.List.{List}
-use Prim.Native.Nat.{ℕ, zero, suc, _+_, _-_, _*_, _≤_, _<_}
+use Prim.Native.Nat.{ℕ, _+_, _-_, _*_, _≤_, _<_}
 use native.Mathlib.Omega.{arith}
 use native.Mathlib.Nat.{mul-le-mul-right}
 use lib.IntN.{ℤ}
@@ -10,7 +10,7 @@ use lib.ListN.{length}
 use Rattle.integers.specs.Rep.{le-or-lt}
 use Rattle.plan.specs.declared.Plan.{Plan}
 use Rattle.model.specs.Model.{width}
-use Rattle.model.specs.Labels.{labelOn, counts, usedAt, used-most}
+use Rattle.model.specs.Labels.{labelOn, counts, used-most}
 use Rattle.model.specs.Index.{noCost}
 use Rattle.model.specs.Held.{Table, firstTable}
 use Rattle.model.specs.Totals.{totalAt, total-first}
@@ -18,12 +18,12 @@ use Rattle.quadratic.specs.Quad.{none, flat}
 use Rattle.curve.specs.Pieces.{Made}
 use Rattle.curve.specs.Curve.{Curve, curve-kept, curve-flat, near}
 use Rattle.layer.specs.declared.Shape.{Shape}
-use Rattle.layer.specs.Layer.{tempWords, stepMost, layerCell, layerWords, listAt, Shape-small, LayerOf}
+use Rattle.layer.specs.Layer.{stepMost, layerCell, layerWords, listAt, Shape-small, LayerOf}
 use Rattle.layer.specs.Next.{StartReady, Stepped}
 use Rattle.layer.proofs.Next.{of-shape, shape-small}
 use Rattle.saved.specs.Packed.{Inside}
 use Rattle.saved.proofs.Chains.{inside-refl, inside-then, inside-wider, kept-inside}
-use Rattle.neighbourhood.specs.Slots.{placeOf, tableLimit, Ground, nothing, Emptied, Slots, StepTo}
+use Rattle.neighbourhood.specs.Slots.{placeOf, tableLimit, Ground, nothing, Emptied, StepTo}
 use Rattle.neighbourhood.proofs.Slots.{ground-then, temps-fit, free-low, under-free}
 use Rattle.neighbourhood.proofs.Steps.{slot-kept, stepped-inside}
 

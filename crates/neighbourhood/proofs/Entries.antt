@@ -3,14 +3,14 @@ use mathlib.Core.Path.{_≡_, refl, sym, _∙_, ap, subst}
 use mathlib.Core.List.{List, _∷_, [], _++_}
 use mathlib.Core.Bool.{Bool, true, false}
 use mathlib.Core.Logic.{_⊎_, ⊎-elim}
-use Prim.Native.Nat.{ℕ, suc, _+_, _*_, _≤_, _<_}
+use Prim.Native.Nat.{ℕ, suc, _+_, _≤_, _<_}
 use native.Mathlib.Omega.{arith}
 use native.Mathlib.Numerals.{add-one}
 use lib.Dec.{leb}
 use borrow.Author.Tests.{leb-true, leb-false, lt-ltb, le-ltb}
 use lib.IntN.{ℤ}
 use lib.ListN.{length, getD, take, drop, set, length-set, take-append-drop}
-use lib.Seq.{take-suc, take-suc-set, drop-set-lt, drop-drop, length-take-le}
+use lib.Seq.{take-suc, take-suc-set, drop-set-lt, drop-drop}
 use Rattle.plan.specs.declared.Plan.{Plan}
 use Rattle.model.specs.Labels.{labelOn, used-some}
 use Rattle.model.specs.Refusals.{searchNumber}
@@ -27,18 +27,17 @@ use Rattle.model.specs.NeighbourhoodLaws.{entryAt, entry-by, entries-size, tabl
 use Rattle.layer.specs.declared.Shape.{Shape}
 use Rattle.layer.specs.Layer.{ShapeOf, placeMost, LayerOf}
 use Rattle.saved.specs.Packed.{Inside}
-use Rattle.saved.specs.Walk.{Workspace, limit}
+use Rattle.saved.specs.Walk.{Workspace}
 use Rattle.saved.proofs.Chains.{inside-refl, inside-wider}
 use Rattle.back.specs.Read.{Readable, Reads, EndTo, layer-reads, layer-readable, readable-fewer, reads-fewer}
 use Rattle.back.specs.declared.End.{End}
 use Rattle.search.specs.declared.Ended.{Ended}
-use Rattle.search.specs.declared.Filled.{Filled}
 use Rattle.search.specs.declared.Filled.the-variants as F
 use Rattle.search.specs.Cheapest.{Reaches}
-use Rattle.search.specs.Costs.{filledOf, costsAfter, costsLooked, FilledBy}
-use Rattle.neighbourhood.specs.Slots.{placeOf, slotOf, tableLimit, Ground, Slots, ForwardTo}
-use Rattle.neighbourhood.specs.Fill.{Put, Decided, Fillable, FilledTo}
-use Rattle.neighbourhood.proofs.Slots.{slot-layer, ground-then}
+use Rattle.search.specs.Costs.{filledOf, costsAfter, costsLooked}
+use Rattle.neighbourhood.specs.Slots.{placeOf, slotOf, tableLimit, Ground, Slots}
+use Rattle.neighbourhood.specs.Fill.{Put, Decided, FilledTo}
+use Rattle.neighbourhood.proofs.Slots.{slot-layer}
 
 -- ---- one entry
 

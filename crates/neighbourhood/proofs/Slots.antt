@@ -1,5 +1,5 @@
 -- The slots in the workspace: where they stand, and what keeps them. Assumes nothing.
-use mathlib.Core.Path.{_≡_, refl, sym, _∙_, ap, subst}
+use mathlib.Core.Path.{_≡_, refl, sym, _∙_, ap}
 use mathlib.Core.Logic.{_⊎_, inl, inr, ⊎-elim}
 use mathlib.Core.List.{List}
 use mathlib.Core.Bool.{Bool, true, false, cond}
@@ -9,22 +9,19 @@ use native.Mathlib.Nat.{mul-le-mul, mul-le-mul-right}
 use lib.Dec.{eqb, ltb}
 use borrow.Author.Tests.{eqb-true, eqb-false, ltb-true, ltb-false, eq-eqb, ne-eqb, lt-ltb, le-ltb}
 use lib.IntN.{ℤ}
-use lib.ListN.{length, getD}
+use lib.ListN.{length}
 use Rattle.integers.specs.Rep.{le-or-lt}
 use Rattle.plan.specs.declared.Plan.{Plan}
 use Rattle.model.specs.Model.{width}
-use Rattle.model.specs.Labels.{labelOn, counts, usedAt, used-most}
-use Rattle.model.specs.Index.{noCost}
+use Rattle.model.specs.Labels.{labelOn, counts, used-most}
 use Rattle.model.specs.Held.{Table}
 use Rattle.model.specs.Totals.{totalAt, total-zero, total-none}
 use Rattle.curve.specs.Curve.{curve-as}
 use Rattle.layer.specs.declared.Shape.{Shape}
-use Rattle.layer.specs.Layer.{tempWords, placeMost, layerCell, layerWords, ShapeOf, Shape-small, LayerOf}
-use Rattle.layer.specs.Next.{Task, Aside}
-use Rattle.layer.proofs.Next.{shape-small}
+use Rattle.layer.specs.Layer.{tempWords, placeMost, layerCell, layerWords, LayerOf}
+use Rattle.layer.specs.Next.{Aside}
 use Rattle.saved.specs.Packed.{Inside}
-use Rattle.saved.specs.Walk.{limit}
-use Rattle.neighbourhood.specs.Slots.{placeOf, slotsMost, slotOf, Banks, tableLimit, Ground, nothing, Slots}
+use Rattle.neighbourhood.specs.Slots.{placeOf, slotOf, Banks, tableLimit, Ground, Slots}
 
 -- ---- places
 

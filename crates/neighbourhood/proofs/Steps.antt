@@ -1,25 +1,23 @@
 -- One reading more, slot by slot. Assumes nothing.
-use mathlib.Core.Path.{_≡_, refl, sym, _∙_, ap, subst}
+use mathlib.Core.Path.{_≡_, _∙_, ap, subst}
 use mathlib.Core.Logic.{_⊎_, inl, inr, ⊎-elim}
 use mathlib.Core.List.{List}
-use Prim.Native.Nat.{ℕ, zero, suc, _+_, _-_, _*_, _≤_, _<_, min}
+use Prim.Native.Nat.{ℕ, suc, _+_, _-_, _*_, _≤_, _<_, min}
 use native.Mathlib.Omega.{arith}
-use native.Mathlib.Numerals.{add-one}
 use lib.IntN.{ℤ}
-use lib.ListN.{length, getD}
+use lib.ListN.{length}
 use Rattle.integers.specs.Rep.{le-or-lt}
 use Rattle.plan.specs.declared.Plan.{Plan}
-use Rattle.model.specs.Model.{width}
-use Rattle.model.specs.Held.{Table, firstTable, nextFrom}
-use Rattle.model.specs.Totals.{totalAt, total-first, total-next}
+use Rattle.model.specs.Held.{Table, nextFrom}
+use Rattle.model.specs.Totals.{totalAt, total-next}
 use Rattle.layer.specs.declared.Shape.{Shape}
-use Rattle.layer.specs.Layer.{tempWords, placeMost, layerCell, layerWords, LayerOf, Sources}
-use Rattle.layer.specs.Next.{StepReady, Stepped, StartReady}
+use Rattle.layer.specs.Layer.{layerWords, LayerOf, Sources}
+use Rattle.layer.specs.Next.{StepReady, Stepped}
 use Rattle.layer.proofs.Lists.{layer-same}
 use Rattle.saved.specs.Packed.{Inside}
-use Rattle.saved.proofs.Chains.{inside-refl, inside-then, inside-wider}
-use Rattle.neighbourhood.specs.Slots.{placeOf, slotOf, Banks, tableLimit, Ground, nothing, Emptied, Slots, StepTo, ForwardTo}
-use Rattle.neighbourhood.proofs.Slots.{apart-places, ground-then, temps-fit, free-low, free, under-free, slot-layer, slot-aside}
+use Rattle.saved.proofs.Chains.{inside-refl, inside-then}
+use Rattle.neighbourhood.specs.Slots.{placeOf, slotOf, Banks, tableLimit, Ground, Slots, StepTo, ForwardTo}
+use Rattle.neighbourhood.proofs.Slots.{apart-places, ground-then, temps-fit, free-low, under-free, slot-layer, slot-aside}
 
 -- the slots up to i are made in the bank after `to` layers, and the ones that they come from still stand
 pub record Stepping (P : Plan) (zs : List ℤ) (most t from to i : ℕ) (ws ws′ : List ℕ) : Type 0 where

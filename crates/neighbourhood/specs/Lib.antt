@@ -1,3 +1,4 @@
 pub mod Neighbourhood
 pub mod Slots
 pub mod Fill
+pub mod Right

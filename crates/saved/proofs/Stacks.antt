@@ -16,11 +16,10 @@ use Rattle.model.specs.Checked.{Checked}
 use Rattle.model.specs.Labels.{labelOn, usedAt, used-most}
 use Rattle.model.specs.Ends.{tableAt}
 use Rattle.curve.specs.Pieces.{Held}
-use Rattle.curve.specs.Lists.{count-most, count-same}
+use Rattle.curve.specs.Lists.{count-same}
 use Rattle.curve.specs.Curve.{Curve, curve-same}
 use Rattle.model.specs.Held.{Table}
 use Rattle.layer.specs.Layer.{stepMost, baseOf, listAt, LayerOf, Layer}
-use Rattle.layer.proofs.Next.{list-within}
 use Rattle.saved.specs.Packed.{Chain, Inside, Row, Packing, Unpacked}
 use Rattle.saved.specs.Walk.{mostSlots, tableSize, stackAt, limit, Packed, Entry, Stack, timeOf, offOf, Pushed, Dropped}
 use Rattle.saved.proofs.Chains.{chain-low, chain-next, chain-part, chain-same}

@@ -78,7 +78,7 @@ pub fn of_windows(count: usize, w: usize, refusal: Refusal) -> String {
 pub fn of_table(count: usize, most: usize, refusal: Refusal) -> String {
     match refusal.0 {
         9 => of_record(count),
-        20 => format!("a table for {most} changes: choose K from 0 to {MAX_CHANGES}"),
+        20 => format!("a table for {most} changes: choose --changes from 0 to {MAX_CHANGES}"),
         _ => sentence(refusal).to_string(),
     }
 }

@@ -118,9 +118,14 @@ pub const COMMANDS: [Command; 12] = [
     Command {
         name: "table",
         about: "give the least cost for each number of changes",
-        usage: "table PLAN [RECORD] [K] [OPTIONS]",
-        files: 3,
+        usage: "table PLAN [RECORD] [--changes K] [OPTIONS]",
+        files: 2,
         options: &[
+            Opt::with(
+                "changes",
+                "K",
+                "the most changes, 0 to 32 (without it: 32, or one less than there are readings where that is less)",
+            ),
             COLUMN,
             HEADER,
             NO_HEADER,

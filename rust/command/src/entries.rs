@@ -1,11 +1,16 @@
 //! The costs for each number of changes, as a table, as CSV and as JSON.
 use crate::check::counted;
-use crate::export::{json_list, json_number, json_one_record, json_text};
+use crate::costs::Formats;
+use crate::export::{json_list, json_number};
+use crate::picture::Look;
+use crate::table_picture::table_picture;
 
 /// The least costs of a record with 0, 1, .. changes; none where no allowed segmentation has that many.
 pub struct Entries {
     pub readings: usize,
     pub costs: Vec<Option<u64>>,
+    /// What the answer of a search costs, which may have more changes than the table.
+    pub answer: u64,
 }
 
 /// The cost for one number of changes.
@@ -19,11 +24,12 @@ pub struct Entry {
 
 impl Entries {
     /// The proved library has the largest number where there is no cost.
-    pub fn new(readings: usize, costs: &[u64]) -> Entries {
+    pub fn new(readings: usize, costs: &[u64], answer: u64) -> Entries {
         let cost = |cost: &u64| Some(*cost).filter(|cost| *cost != u64::MAX);
         Entries {
             readings,
             costs: costs.iter().map(cost).collect(),
+            answer,
         }
     }
 
@@ -55,8 +61,10 @@ impl Entries {
         };
         format!("{numbers} in {}: {least}", counted(self.readings, "reading"))
     }
+}
 
-    pub fn table(&self) -> String {
+impl Formats for Entries {
+    fn table(&self) -> String {
         let least = self.least().map(|(changes, _)| changes);
         let mut rows = vec![["changes", "cost", "step", ""].map(str::to_string)];
         for Entry { changes, cost, step } in self.entries() {
@@ -75,7 +83,7 @@ impl Entries {
         shown
     }
 
-    pub fn csv(&self) -> String {
+    fn csv(&self) -> String {
         let least = self.least().map(|(changes, _)| changes);
         let row = |Entry { changes, cost, step }: Entry| {
             let cost = cost.map_or(String::new(), |cost| cost.to_string());
@@ -84,43 +92,24 @@ impl Entries {
         };
         "changes,cost,step,least\n".to_string() + &self.entries().map(row).collect::<String>()
     }
-}
 
-/// What JSON says of a record beside its table.
-pub struct About<'a> {
-    pub record: &'a str,
-    /// How many readings it has; none where it cannot be read.
-    pub readings: Option<usize>,
-    /// The most changes that were asked for; none where nothing was said and the record cannot be read.
-    pub most: Option<usize>,
-}
+    fn members(found: Option<&Entries>) -> Vec<(&'static str, String)> {
+        let object = |Entry { changes, cost, step }: Entry| {
+            let (cost, step) = (json_number(cost), json_number(step));
+            format!("{{\"changes\": {changes}, \"cost\": {cost}, \"step\": {step}}}")
+        };
+        let objects: Vec<String> = found.into_iter().flat_map(Entries::entries).map(object).collect();
+        let least = found.and_then(Entries::least).map(|(changes, _)| changes);
+        vec![
+            ("cost", json_number(found.map(|entries| entries.answer))),
+            ("least", json_number(least)),
+            ("table", json_list(&objects)),
+        ]
+    }
 
-/// An object with the list `records`, as `find` writes one, with this record alone.
-pub fn json(about: &About, entries: &Entries) -> String {
-    let object = |Entry { changes, cost, step }: Entry| {
-        let (cost, step) = (json_number(cost), json_number(step));
-        format!("{{\"changes\": {changes}, \"cost\": {cost}, \"step\": {step}}}")
-    };
-    let objects: Vec<String> = entries.entries().map(object).collect();
-    let least = json_number(entries.least().map(|(changes, _)| changes));
-    json_members(about, ["null".to_string(), "null".to_string(), least, json_list(&objects)])
-}
-
-/// The same for a record without costs: the number of the refusal where there is one, and the message.
-pub fn json_refused(about: &About, refusal: Option<u8>, sentence: &str) -> String {
-    json_members(about, [json_number(refusal), json_text(sentence), "null".to_string(), json_list(&[])])
-}
-
-fn json_members(about: &About, [refusal, sentence, least, table]: [String; 4]) -> String {
-    json_one_record(&[
-        ("record", json_text(about.record)),
-        ("readings", json_number(about.readings)),
-        ("most", json_number(about.most)),
-        ("refusal", refusal),
-        ("sentence", sentence),
-        ("least", least),
-        ("table", table),
-    ])
+    fn picture(&self, look: &Look) -> String {
+        table_picture(self, look)
+    }
 }
 
 #[cfg(test)]
@@ -131,13 +120,14 @@ mod tests {
         Entries {
             readings: 4,
             costs: costs.to_vec(),
+            answer: 0,
         }
     }
 
     /// Only the largest number stands for none.
     #[test]
     fn none_is_the_largest_number() {
-        let read = Entries::new(4, &[0, u64::MAX, u64::MAX - 1]);
+        let read = Entries::new(4, &[0, u64::MAX, u64::MAX - 1], 0);
         assert_eq!(read.costs, [Some(0), None, Some(u64::MAX - 1)]);
     }
 

@@ -22,30 +22,26 @@ pub struct Given<'a> {
 }
 
 /// What a command is given by its words.
-#[derive(Clone, Copy)]
 pub struct Words<'a> {
     /// The command itself, and how it is called with a record, for messages.
-    pub command: &'static str,
-    pub form: &'static str,
-    pub plan: &'a str,
+    command: &'static str,
+    form: &'static str,
+    plan: &'a str,
     /// Without one the readings of the plan are taken.
-    pub record: Option<&'a str>,
+    record: Option<&'a str>,
 }
 
-/// Why a record has no costs: with the number of a refusal, or because it cannot be read.
-pub struct Unanswered {
-    pub refusal: Option<u8>,
-    pub sentence: String,
-    pub failure: Failure,
-}
-
-impl From<Failure> for Unanswered {
-    fn from(failure: Failure) -> Unanswered {
-        Unanswered {
-            refusal: None,
-            sentence: failure.reason().to_string(),
-            failure,
-        }
+impl<'a> Words<'a> {
+    pub fn of(args: &'a Args, command: &'static str, form: &'static str) -> Result<Words<'a>, Failure> {
+        let [plan, record @ ..] = args.files() else {
+            return Err(usage(format!("{command}: a plan is missing\nTry 'yeldaski help {command}'.")));
+        };
+        Ok(Words {
+            command,
+            form,
+            plan,
+            record: record.first().map(String::as_str),
+        })
     }
 }
 

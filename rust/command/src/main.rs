@@ -7,6 +7,7 @@ mod check;
 mod colours;
 mod commands;
 mod cost_picture;
+mod costs;
 mod csv;
 mod decimal;
 mod decode;

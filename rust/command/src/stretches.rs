@@ -1,6 +1,9 @@
 //! The costs of the stretches of a record, as a table, as CSV and as JSON.
 use crate::check::counted;
-use crate::export::{json_list, json_number, json_one_record, json_text};
+use crate::cost_picture::cost_picture;
+use crate::costs::Formats;
+use crate::export::json_list;
+use crate::picture::Look;
 use std::cmp::Reverse;
 
 /// So many of the dearest stretches are named in a table.
@@ -66,9 +69,11 @@ impl Costs {
         let stretches = if self.costs.len() == 1 { "stretch" } else { "stretches" };
         format!("{} {stretches} of {}", self.costs.len(), counted(self.window, "reading"))
     }
+}
 
+impl Formats for Costs {
     /// What there is to see in it at a glance: tens of thousands of lines are for programs.
-    pub fn table(&self) -> String {
+    fn table(&self) -> String {
         let row = |name: String, stretch: Stretch| [name, stretch.start.to_string(), stretch.last.to_string(), stretch.cost.to_string()];
         let mut rows = vec![["stretch", "start", "last", "cost"].map(str::to_string)];
         rows.extend(self.cheapest().map(|stretch| row("cheapest".to_string(), stretch)));
@@ -83,41 +88,20 @@ impl Costs {
         shown
     }
 
-    pub fn csv(&self) -> String {
+    fn csv(&self) -> String {
         let row = |Stretch { start, last, cost }: Stretch| format!("{start},{last},{cost}\n");
         "start,last,cost\n".to_string() + &self.stretches().map(row).collect::<String>()
     }
-}
 
-/// What JSON says of a record beside its stretches.
-pub struct About<'a> {
-    pub record: &'a str,
-    /// How many readings it has; none where it cannot be read.
-    pub readings: Option<usize>,
-    pub window: usize,
-}
+    fn members(found: Option<&Costs>) -> Vec<(&'static str, String)> {
+        let object = |Stretch { start, last, cost }: Stretch| format!("{{\"start\": {start}, \"last\": {last}, \"cost\": {cost}}}");
+        let objects: Vec<String> = found.into_iter().flat_map(Costs::stretches).map(object).collect();
+        vec![("stretches", json_list(&objects))]
+    }
 
-/// An object with the list `records`, as `find` writes one, with this record alone.
-pub fn json(about: &About, costs: &Costs) -> String {
-    let object = |Stretch { start, last, cost }: Stretch| format!("{{\"start\": {start}, \"last\": {last}, \"cost\": {cost}}}");
-    let objects: Vec<String> = costs.stretches().map(object).collect();
-    json_members(about, ["null".to_string(), "null".to_string(), json_list(&objects)])
-}
-
-/// The same for a record without costs: the number of the refusal where there is one, and the message.
-pub fn json_refused(about: &About, refusal: Option<u8>, sentence: &str) -> String {
-    json_members(about, [json_number(refusal), json_text(sentence), json_list(&[])])
-}
-
-fn json_members(about: &About, [refusal, sentence, stretches]: [String; 3]) -> String {
-    json_one_record(&[
-        ("record", json_text(about.record)),
-        ("readings", json_number(about.readings)),
-        ("window", about.window.to_string()),
-        ("refusal", refusal),
-        ("sentence", sentence),
-        ("stretches", stretches),
-    ])
+    fn picture(&self, look: &Look) -> String {
+        cost_picture(self, look)
+    }
 }
 
 #[cfg(test)]

@@ -1,15 +1,13 @@
 //! `windows`: the least cost of every stretch of a long record, from the proved moving window.
 use crate::cause;
 use crate::check::counted;
-use crate::cost_picture::cost_picture;
-use crate::failure::{numbered, quoted, refused, usage, Failure};
-use crate::given::{Given, Unanswered, Words};
+use crate::costs::{self, whole_number, Answered, Unanswered};
+use crate::failure::{usage, Failure};
+use crate::given::{Given, Words};
 use crate::outline::in_line;
-use crate::picture::Look;
 use crate::plan::MAX_WINDOW;
 use crate::progress::Progress;
-use crate::streams::{say, write};
-use crate::stretches::{json, json_refused, About, Costs};
+use crate::stretches::Costs;
 use shared::options::Args;
 use std::sync::Mutex;
 use yeldaski::Refusal;
@@ -18,60 +16,30 @@ use yeldaski::Refusal;
 /// together, and enough that what a call does beside its layers does not count.
 const LAYERS: usize = 4096;
 
-/// What a call does once its inputs are read.
+/// A moving window over a plan and its record.
 struct Task<'a> {
     given: Given<'a>,
     w: usize,
     jobs: usize,
-    look: Look,
-    picture: Option<String>,
 }
 
 pub fn act(args: &Args) -> Result<u8, Failure> {
-    let [plan, record @ ..] = args.files() else {
-        return Err(usage("windows: a plan is missing\nTry 'yeldaski help windows'."));
-    };
-    let words = Words {
-        command: "windows",
-        form: "windows PLAN RECORD --window W",
-        plan,
-        record: record.first().map(String::as_str),
-    };
-    let w = window(args)?;
+    let words = Words::of(args, "windows", "windows PLAN RECORD --window W")?;
+    let w = whole_number(args, "windows", "window", [1, MAX_WINDOW])?.ok_or_else(|| {
+        let why = format!("say with --window how many readings a stretch has, 1 to {MAX_WINDOW}");
+        usage(format!("windows: {why}\nTry 'yeldaski help windows'."))
+    })?;
     let jobs = args.number("jobs", 1, 256, 1).map_err(|why| usage(format!("windows: {why}")))?;
-    let given = Given::read(args, words)?;
     let task = Task {
-        look: given.look(args)?,
-        picture: given.picture(args)?,
-        given,
+        given: Given::read(args, words)?,
         w,
         jobs: jobs as usize,
     };
-    let layout = task.given.layout(args)?;
-    task.given.check_outputs(task.picture.as_deref(), args.option("output"))?;
-    let readings = task.given.readings(&layout);
-    let count = readings.as_ref().ok().map(Vec::len);
-    let outcome = readings.map_err(Unanswered::from).and_then(|readings| task.costs(readings));
-    task.report(args, count, outcome)
-}
-
-/// Numbers that no window has are left to the proved library, which refuses them.
-fn window(args: &Args) -> Result<usize, Failure> {
-    let Some(value) = args.option("window") else {
-        let why = "say with --window how many readings a stretch has, 1 to 1024";
-        return Err(usage(format!("windows: {why}\nTry 'yeldaski help windows'.")));
-    };
-    value.parse().map_err(|_| {
-        let found = quoted(value);
-        usage(format!(
-            "windows: --window: expected a whole number from 1 to {MAX_WINDOW}, found {found}"
-        ))
-    })
+    costs::act(args, &task.given, |_| ("window", Some(w)), |readings| task.costs(readings))
 }
 
 impl Task<'_> {
-    /// The costs, and a warning where most readings lie outside the grid.
-    fn costs(&self, readings: Vec<i16>) -> Result<(Costs, Option<String>), Unanswered> {
+    fn costs(&self, readings: Vec<i16>) -> Result<Answered<Costs>, Unanswered> {
         let (file, w) = (&self.given.file, self.w);
         // Lent no room for costs, the library says what it would refuse in a call over the whole record; 15 is that nothing else is wrong.
         match yeldaski::windows(file, &readings, w, &mut self.workspace(), &mut []) {
@@ -80,7 +48,10 @@ impl Task<'_> {
         }
         let mut costs = vec![0; readings.len() + 1 - w];
         self.fill(&readings, &mut costs).map_err(|refusal| self.refused(&readings, refusal))?;
-        Ok((Costs { window: w, costs }, self.given.far_off(readings)))
+        Ok(Answered {
+            costs: Costs { window: w, costs },
+            notes: self.given.far_off(readings).into_iter().collect(),
+        })
     }
 
     fn workspace(&self) -> Vec<u64> {
@@ -133,11 +104,7 @@ impl Task<'_> {
             16 => self.no_segmentation(&readings[..self.w]),
             _ => cause::of_windows(readings.len(), self.w, refusal),
         };
-        Unanswered {
-            refusal: Some(refusal.0),
-            failure: refused(format!("{place}: {}", numbered(&sentence, refusal))),
-            sentence,
-        }
+        Unanswered::refused(&place, sentence, refusal)
     }
 
     /// The place that a refusal because of labels is about.
@@ -153,37 +120,5 @@ impl Task<'_> {
     fn no_segmentation(&self, stretch: &[i16]) -> String {
         let cause = cause::words(&self.given.file_with(stretch), Refusal(16));
         format!("stretches of {}: {cause}", counted(stretch.len(), "reading"))
-    }
-
-    /// The costs are written before the picture: they took long, and a picture can fail.
-    fn report(&self, args: &Args, readings: Option<usize>, outcome: Result<(Costs, Option<String>), Unanswered>) -> Result<u8, Failure> {
-        let (output, format) = (args.option("output"), args.option("format"));
-        let about = About {
-            record: self.given.record_name(),
-            readings,
-            window: self.w,
-        };
-        let (costs, warning) = match outcome {
-            Ok(answered) => answered,
-            Err(Unanswered { refusal, sentence, failure }) => {
-                if format == Some("json") {
-                    write(output, json_refused(&about, refusal, &sentence).as_bytes())?;
-                }
-                return Err(failure);
-            }
-        };
-        let shown = match format {
-            Some("csv") => costs.csv(),
-            Some("json") => json(&about, &costs),
-            _ => costs.table(),
-        };
-        write(output, shown.as_bytes())?;
-        if let Some(path) = &self.picture {
-            write(Some(path), cost_picture(&costs, &self.look).as_bytes())?;
-        }
-        warning
-            .iter()
-            .for_each(|warning| say(&format!("{}: {warning}", in_line(self.given.record_name()))));
-        Ok(0)
     }
 }

@@ -94,14 +94,14 @@ fn the_examples() {
         put(&folder, name, &format!("{A}{label}"));
     }
     for (args, expected) in [
-        (["a.txt", "0"], &[9][..]),
-        (["a.txt", "4"], &[9, 3, 3, 3, -1]),
-        (["one.txt", "4"], &[-1, 10, 3, 3, -1]),
-        (["three.txt", "3"], &[-1, -1, -1, 3]),
-        (["three.txt", "1"], &[-1, -1]),
-        (["b.txt", "4"], &[16, -1, 1, -1, -1]),
-        (["b_end.txt", "4"], &[-1, 12, -1, 10, -1]),
-        (["pad.txt", "7"], &[29, 28, 3, 5, 5, 7, 13, 37]),
+        (["a.txt", "--changes", "0"], &[9][..]),
+        (["a.txt", "--changes", "4"], &[9, 3, 3, 3, -1]),
+        (["one.txt", "--changes", "4"], &[-1, 10, 3, 3, -1]),
+        (["three.txt", "--changes", "3"], &[-1, -1, -1, 3]),
+        (["three.txt", "--changes", "1"], &[-1, -1]),
+        (["b.txt", "--changes", "4"], &[16, -1, 1, -1, -1]),
+        (["b_end.txt", "--changes", "4"], &[-1, 12, -1, 10, -1]),
+        (["pad.txt", "--changes", "7"], &[29, 28, 3, 5, 5, 7, 13, 37]),
     ] {
         assert_eq!(costs(&folder, &args), some(expected), "{args:?}");
     }
@@ -116,7 +116,7 @@ fn the_examples() {
 fn each_line_as_a_search_with_a_label() {
     let folder = start("label_each");
     put(&folder, "long.csv", &lines(&rough(300, 30)));
-    let found = costs(&folder, &["belt.txt", "long.csv", "7"]);
+    let found = costs(&folder, &["belt.txt", "long.csv", "--changes", "7"]);
     assert!(found.iter().all(Option::is_some), "{found:?}");
     for (changes, cost) in found.into_iter().flatten().enumerate() {
         put(&folder, "asked.txt", &format!("{BELT}label 1 to 300 changes {changes}\n"));
@@ -125,7 +125,7 @@ fn each_line_as_a_search_with_a_label() {
     }
 }
 
-/// The plan as a text or as a plan file, the record as everything that `find` reads, and K last or left out.
+/// The plan as a text or as a plan file, the record as everything that `find` reads, and K said or left out.
 #[test]
 fn every_sort_of_plan_and_record() {
     let folder = start("sorts");
@@ -144,26 +144,24 @@ fn every_sort_of_plan_and_record() {
     }
     let cases: [&[&str]; 12] = [
         &["b.txt"],
-        &["b.txt", "3"],
+        &["b.txt", "--changes", "3"],
         &["b.plan"],
-        &["b.plan", "03"],
+        &["b.plan", "--changes", "03"],
         &["file.txt"],
         &["bare.txt", "day.csv"],
-        &["bare.txt", "./12", "3"],
-        &["b.plan", "day.csv", "3"],
+        &["bare.txt", "12"],
+        &["b.plan", "day.csv", "--changes", "3"],
         &["b.txt", "b.plan"],
         &["bare.txt", "named.csv", "--column", "2", "--header"],
-        &["tenths.txt", "tenths.csv", "3"],
+        &["tenths.txt", "tenths.csv", "--changes", "3"],
         &["tenths.txt", "b.plan"],
     ];
     for args in cases {
         assert_eq!(costs(&folder, args), some(&[16, -1, 1, -1]), "{args:?}");
     }
     assert_eq!(costs(&folder, &["b.txt", "a.plan"]), some(&[9, -1, 10, -1]));
-    // A word of digits is K, whatever stands in the folder.
-    assert_eq!(costs(&folder, &["b.txt", "12"]).len(), 13);
     for (args, input) in [(["bare.txt", "-"], b"1\n5\n5\n1\n".to_vec()), (["-", "day.csv"], B.as_bytes().to_vec())] {
-        let done = run_in(&folder, &["table", args[0], args[1], "1", "--format=csv"], &input);
+        let done = run_in(&folder, &["table", args[0], args[1], "--changes=1", "--format=csv"], &input);
         let csv = "changes,cost,step,least\n0,16,,1\n1,,,0\n";
         assert_eq!((done.status, done.text().as_str()), (0, csv), "{args:?}");
     }
@@ -175,8 +173,8 @@ fn the_table() {
     let folder = start("table");
     let whole = "0 to 4 changes in 4 readings: least cost 3 with 1 change\n\nchanges  cost  step\n      0     9\n      1     3    -6  least\n      \
                  2     3     0\n      3     3     0\n      4  none\n";
-    assert_eq!(shown(&folder, &["a.txt", "4"]), whole);
-    assert_eq!(shown(&folder, &["a.txt", "4", "--format", "table", "-o", "out"]), "");
+    assert_eq!(shown(&folder, &["a.txt", "--changes", "4"]), whole);
+    assert_eq!(shown(&folder, &["a.txt", "--changes", "4", "--format", "table", "-o", "out"]), "");
     assert_eq!(fs::read_to_string(folder.join("out")).expect("file"), whole);
     // The step leads over the lines without a cost.
     let pairs = "0 to 3 changes in 4 readings: least cost 1 with 2 changes\n\nchanges  cost  step\n      0    16\n      1  none\n      \
@@ -198,7 +196,7 @@ fn without_a_k() {
     }
     assert_eq!(costs(&folder, &["a.txt"]), some(&[9, 3, 3, 3]));
     // More than there can be are asked for.
-    assert_eq!(costs(&folder, &["a.txt", "32"])[4..], [None; 29]);
+    assert_eq!(costs(&folder, &["a.txt", "--changes", "32"])[4..], [None; 29]);
 }
 
 /// What the table does not show is said: that more changes cost less.
@@ -208,18 +206,18 @@ fn cheaper_with_more_changes() {
     put(&folder, "three.txt", &format!("{A}label 1 to 4 changes 3\n"));
     for (args, note) in [
         (
-            ["a.txt", "0"],
-            "a.txt: with more than 0 changes it costs less: 3, which is what 'yeldaski find' finds\n",
+            ["a.txt", "--changes", "0"],
+            "a.txt: the answer of a search has 2 changes, more than the table, and costs 3\n",
         ),
-        (["a.txt", "1"], ""),
+        (["a.txt", "--changes", "1"], ""),
         (
-            ["b.txt", "1"],
-            "b.txt: with more than 1 change it costs less: 1, which is what 'yeldaski find' finds\n",
+            ["b.txt", "--changes", "1"],
+            "b.txt: the answer of a search has 2 changes, more than the table, and costs 1\n",
         ),
-        (["b.txt", "2"], ""),
+        (["b.txt", "--changes", "2"], ""),
         (
-            ["three.txt", "2"],
-            "three.txt: with more than 2 changes it costs 3, which is what 'yeldaski find' finds\n",
+            ["three.txt", "--changes", "2"],
+            "three.txt: the answer of a search has 3 changes, more than the table, and costs 3\n",
         ),
     ] {
         for format in ["table", "csv", "json"] {
@@ -227,7 +225,7 @@ fn cheaper_with_more_changes() {
             assert_eq!((done.status, done.err.as_str()), (0, note), "{args:?}");
         }
     }
-    let none = table(&folder, &["three.txt", "1"]).text();
+    let none = table(&folder, &["three.txt", "--changes", "1"]).text();
     assert!(
         none.starts_with("0 to 1 changes in 4 readings: no allowed segmentation has so few\n"),
         "{none}"
@@ -238,35 +236,15 @@ fn cheaper_with_more_changes() {
 fn numbers_of_changes_that_are_refused() {
     let folder = start("refused");
     for k in ["33", "34", "100", "4294967296", "18446744073709551615"] {
-        let done = table(&folder, &["a.txt", k]);
-        let words = format!("a.txt: a table for {k} changes: choose K from 0 to 32 (refusal 20)\n");
+        let done = table(&folder, &["a.txt", "--changes", k]);
+        let words = format!("a.txt: a table for {k} changes: choose --changes from 0 to 32 (refusal 20)\n");
         assert_eq!((done.status, done.out.len(), done.err), (1, 0, words));
     }
-    assert_eq!(costs(&folder, &["a.txt", "32"]).len(), 33);
-    for (args, words) in [
-        (
-            &["a.txt", "99999999999999999999999"][..],
-            "K: expected a whole number from 0 to 32, found '99999999999999999999999'",
-        ),
-        (&["a.txt", "day.csv", "x"], "K: expected a whole number from 0 to 32, found 'x'"),
-        (&["a.txt", "day.csv", "2.5"], "K: expected a whole number from 0 to 32, found '2.5'"),
-        // K stands last
-        (&["a.txt", "3", "day.csv"], "K: expected a whole number from 0 to 32, found 'day.csv'"),
-        (&["a.txt", "day.csv", ""], "K: expected a whole number from 0 to 32, found ''"),
-        (&["a.txt", "day.csv", "--", "-1"], "K: expected a whole number from 0 to 32, found '-1'"),
-        (
-            &["a.txt", "2.5"],
-            "'2.5' is neither a record that is there nor K, a whole number from 0 to 32",
-        ),
-        (
-            &["a.txt", "x"],
-            "'x' is neither a record that is there nor K, a whole number from 0 to 32",
-        ),
-        (&["a.txt", "-1"], "unknown option '-1'"),
-    ] {
-        let done = table(&folder, args);
-        assert_eq!((done.status, done.out.len()), (2, 0), "{args:?}");
-        assert!(done.err.contains(words), "{args:?}: {}", done.err);
+    assert_eq!(costs(&folder, &["a.txt", "--changes", "32"]).len(), 33);
+    for k in ["x", "2.5", "-1", "", " 3", "99999999999999999999999"] {
+        let done = table(&folder, &["a.txt", &format!("--changes={k}")]);
+        let words = format!("yeldaski: table: --changes: expected a whole number from 0 to 32, found '{k}'\n");
+        assert_eq!((done.status, done.out.len(), done.err), (2, 0, words));
     }
 }
 
@@ -286,20 +264,26 @@ fn records_and_labels_that_are_refused() {
     let hard = "label 2 (readings 3 to 4, one up) cannot hold: no edge has the kind up";
     for (args, words) in [
         (
-            &["late.txt", "long.csv", "33"][..],
+            &["late.txt", "long.csv", "--changes", "33"][..],
             "long.csv: 4097 readings, at most 4096: split the record".to_string(),
         ),
         (
-            &["late.txt", "none.csv", "33"],
+            &["late.txt", "none.csv", "--changes", "33"],
             "none.csv: there are no readings, at least 1 is due (refusal 9)\n".to_string(),
         ),
-        (&["late.txt", "33"], format!("late.txt: {late}; see late.txt:6 (refusal 13)\n")),
+        (
+            &["late.txt", "--changes", "33"],
+            format!("late.txt: {late}; see late.txt:6 (refusal 13)\n"),
+        ),
         (&["late.plan"], format!("late.plan: {late} (refusal 13)\n")),
         (
-            &["hard.txt", "33"],
-            "hard.txt: a table for 33 changes: choose K from 0 to 32 (refusal 20)\n".to_string(),
+            &["hard.txt", "--changes", "33"],
+            "hard.txt: a table for 33 changes: choose --changes from 0 to 32 (refusal 20)\n".to_string(),
         ),
-        (&["hard.txt", "2"], format!("hard.txt: {hard}; see hard.txt:7 (refusal 16)\n")),
+        (
+            &["hard.txt", "--changes", "2"],
+            format!("hard.txt: {hard}; see hard.txt:7 (refusal 16)\n"),
+        ),
         (&["hard.plan"], format!("hard.plan: {hard} (refusal 16)\n")),
     ] {
         let done = table(&folder, args);
@@ -362,14 +346,13 @@ fn plans_and_records_that_are_wrong() {
         (&["cut.plan"], 1, "cut.plan: not a good plan file: "),
         (&["an.answer"], 1, "looks like an answer file"),
         (&["b.txt", "an.answer"], 1, "looks like an answer file"),
-        (&["belt.txt"], 1, "no record is named: yeldaski table PLAN RECORD [K]"),
+        (&["belt.txt"], 1, "no record is named: yeldaski table PLAN RECORD [--changes K]"),
         (&["missing.txt"], 2, "cannot read 'missing.txt'"),
-        (&["b.txt", "missing.csv"], 2, "'missing.csv' is neither a record that is there nor K"),
-        (&["b.txt", "missing.csv", "3"], 2, "'missing.csv' is neither a record that is there nor K"),
+        (&["b.txt", "missing.csv"], 2, "cannot read 'missing.csv'"),
         (&["b.txt", "all"], 2, "cannot read 'all'"),
-        (&["b.txt", "day.csv", "3", "4"], 2, "3 words at most"),
+        (&["b.txt", "day.csv", "3"], 2, "2 words at most"),
         (&["-", "-"], 2, "standard input is asked for twice"),
-        (&["b.txt", "3", "--column", "a"], 2, "--column is about a RECORD"),
+        (&["b.txt", "--column", "a"], 2, "--column is about a RECORD"),
         (&["b.txt", "--title", "a"], 2, "--title is about a picture; add --plot"),
         (&["b.txt", "--format", "answer"], 2, "expected --format table or csv or json"),
         (&[], 2, "table: a plan is missing"),
@@ -402,24 +385,28 @@ fn csv_and_json() {
     put(&folder, "d,\"1.csv", "1\n5\n5\n1\n");
     put(&folder, "bad.csv", "1\n5l\n");
     let script = "import json,sys\nr, = json.load(sys.stdin)['records']\nprint(list(r))\n\
-                  print(r['record'], r['readings'], r['most'], r['refusal'], (r['sentence'] or '')[:18], r['least'])\n\
+                  print(r['record'], r['readings'], r['most'], r['refusal'], (r['sentence'] or '')[:18], r['cost'], r['least'])\n\
                   print([(x['changes'], x['cost'], x['step']) for x in r['table']])";
-    let names = "['record', 'readings', 'most', 'refusal', 'sentence', 'least', 'table']\n";
+    let names = "['record', 'readings', 'most', 'refusal', 'sentence', 'cost', 'least', 'table']\n";
     for (args, status, said) in [
         (
-            &["b.txt", "d,\"1.csv", "2"][..],
+            &["b.txt", "d,\"1.csv", "--changes", "2"][..],
             0,
-            "d,\"1.csv 4 2 None  2\n[(0, 16, None), (1, None, None), (2, 1, -15)]\n",
+            "d,\"1.csv 4 2 None  1 2\n[(0, 16, None), (1, None, None), (2, 1, -15)]\n",
         ),
-        (&["b_end.txt", "0"], 0, "b_end.txt 4 0 None  None\n[(0, None, None)]\n"),
-        (&["b.txt", "33"], 1, "b.txt 4 33 20 a table for 33 cha None\n[]\n"),
-        (&["b.txt", "bad.csv"], 1, "bad.csv None None None bad.csv:2: expecte None\n[]\n"),
-        (&["b.txt", "bad.csv", "5"], 1, "bad.csv None 5 None bad.csv:2: expecte None\n[]\n"),
+        (&["b_end.txt", "--changes", "0"], 0, "b_end.txt 4 0 None  10 None\n[(0, None, None)]\n"),
+        (&["b.txt", "--changes", "33"], 1, "b.txt 4 33 20 a table for 33 cha None None\n[]\n"),
+        (&["b.txt", "bad.csv"], 1, "bad.csv None None None bad.csv:2: expecte None None\n[]\n"),
+        (
+            &["b.txt", "bad.csv", "--changes", "5"],
+            1,
+            "bad.csv None 5 None bad.csv:2: expecte None None\n[]\n",
+        ),
     ] {
         let done = table(&folder, &[args, &["--format", "json"]].concat());
         assert_eq!((done.status, python(script, &done.out)), (status, format!("{names}{said}")), "{args:?}");
     }
-    let csv = shown(&folder, &["b.txt", "2", "--format", "csv"]);
+    let csv = shown(&folder, &["b.txt", "--changes", "2", "--format", "csv"]);
     let script = "import csv,sys\nfor r in csv.DictReader(sys.stdin, strict=True): print(list(r.values()))";
     assert_eq!(
         python(script, csv.as_bytes()),
@@ -464,7 +451,7 @@ fn drawn(folder: &PathBuf, args: &[&str]) -> String {
 fn pictures() {
     let folder = start("pictures");
     assert_eq!(
-        drawn(&folder, &["a.txt", "4"]),
+        drawn(&folder, &["a.txt", "--changes", "4"]),
         "[0.1, 0.3, 0.5, 0.7]\n['0 changes, cost 9', '1 change, cost 3', '2 changes, cost 3', '3 changes, cost 3']\n[4] True\n\
          ['least: 1 change, cost 3']\n[(0.1, '0'), (0.3, '1'), (0.5, '2'), (0.7, '3'), (0.9, '4')]\n\
          0 to 4 changes in 4 readings: least cost 3 with 1 change\n['changes', 'cost']\n"
@@ -483,13 +470,13 @@ fn pictures() {
     assert!(said.starts_with("[0.083, 0.25, 0.583, 0.75]\n"), "{said}");
     assert_eq!(said.lines().nth(2), Some("[2, 2] True"), "{said}");
     // One number of changes, and none at all.
-    let said = drawn(&folder, &["a.txt", "0"]);
+    let said = drawn(&folder, &["a.txt", "--changes", "0"]);
     assert!(
         said.starts_with("[0.5]\n['0 changes, cost 9']\n[] True\n['least: 0 changes, cost 9']\n[(0.5, '0')]\n"),
         "{said}"
     );
     put(&folder, "three.txt", &format!("{A}label 1 to 4 changes 3\n"));
-    let said = drawn(&folder, &["three.txt", "1"]);
+    let said = drawn(&folder, &["three.txt", "--changes", "1"]);
     let none = "[]\n[]\n[] True\n[]\n[(0.25, '0'), (0.75, '1')]\n0 to 1 changes in 4 readings: no allowed segmentation has so few\n";
     assert!(said.starts_with(none), "{said}");
     // Costs are squares of readings that were multiplied by the scale.
@@ -549,7 +536,11 @@ fn outputs() {
     // A refused call leaves what is there.
     put(&folder, "out.csv", "old");
     assert_eq!(
-        table(&folder, &["b.txt", "33", "--format", "csv", "-o", "out.csv", "--plot", "out.svg"]).status,
+        table(
+            &folder,
+            &["b.txt", "--changes", "33", "--format", "csv", "-o", "out.csv", "--plot", "out.svg"]
+        )
+        .status,
         1
     );
     assert_eq!(fs::read_to_string(folder.join("out.csv")).expect("file"), "old");
@@ -567,15 +558,15 @@ fn memory_that_cannot_be_had() {
         &format!("grid 0 to 1023\n{states}edge s0 -> s1 up 5 penalty 1\nreadings 3 9 9\n"),
     );
     let limited = |k: &str| {
-        let call = format!("ulimit -v 300000; exec {:?} table large.txt {k}", program().get_program());
+        let call = format!("ulimit -v 300000; exec {:?} table large.txt --changes {k}", program().get_program());
         let output = Command::new("bash").args(["-c", &call]).current_dir(&folder).output().expect("bash");
         (output.status.code(), String::from_utf8(output.stderr).expect("text"), output.stdout.len())
     };
-    let words = "yeldaski: table: 415 MB of memory cannot be had, which 8 states, 1024 levels and K = 32 need; a smaller K needs less\n";
+    let words = "yeldaski: table: 415 MB of memory cannot be had, which 8 states, 1024 levels and 32 changes need; a smaller --changes needs less\n";
     assert_eq!(limited("32"), (Some(2), words.to_string(), 0));
     let (status, message, length) = limited("1");
     assert_eq!((status, message.as_str(), length > 0), (Some(0), "", true));
-    assert_eq!(costs(&folder, &["large.txt", "2"]), some(&[24, 1, -1]));
+    assert_eq!(costs(&folder, &["large.txt", "--changes", "2"]), some(&[24, 1, -1]));
 }
 
 /// What the README shows of the pad is what comes out, and the penalties that it names have the answers that it tells.
@@ -583,8 +574,8 @@ fn memory_that_cannot_be_had() {
 fn how_to_choose_a_penalty() {
     let folder = start("readme");
     let readme = include_str!("../../../README.md");
-    let whole = shown(&folder, &["pad.txt", "4"]);
-    assert!(readme.contains(&format!("$ yeldaski table pad.txt 4\n{whole}```\n")), "{whole}");
+    let whole = shown(&folder, &["pad.txt", "--changes", "4"]);
+    assert!(readme.contains(&format!("$ yeldaski table pad.txt --changes 4\n{whole}```\n")), "{whole}");
     for (penalty, cost, changes) in [(10, 23, 2), (20, 29, 0)] {
         put(&folder, "priced.txt", &PAD.replace("penalty 0", &format!("penalty {penalty}")));
         let found = costs(&folder, &["priced.txt"]);
@@ -604,7 +595,7 @@ fn the_help() {
     let folder = start("help");
     let help = run_in(&folder, &["help", "table"], b"").text();
     assert!(
-        help.starts_with("Give the least cost for each number of changes.\n\nUsage: yeldaski table PLAN [RECORD] [K] [OPTIONS]\n"),
+        help.starts_with("Give the least cost for each number of changes.\n\nUsage: yeldaski table PLAN [RECORD] [--changes K] [OPTIONS]\n"),
         "{help}"
     );
     put(&folder, "monday.csv", "current,time\n3,1\n9,2\n9,3\n");

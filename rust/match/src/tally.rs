@@ -102,7 +102,7 @@ pub struct Tables {
     none: u64,
     /// Tables of which that is every entry: only more changes are allowed.
     all_none: u64,
-    /// Tables with a label, once for each, by its c.
+    /// Labels of the plans of these tables, by their c.
     labels: [u64; CS],
 }
 
@@ -162,9 +162,9 @@ impl fmt::Display for Tables {
             "tables {}, entries {entries}, of them without a segmentation {none}, tables of such entries alone {all_none}",
             tables.iter().sum::<u64>()
         )?;
-        for (name, counts) in [("by K", &tables[..]), ("with a label, by c", labels)] {
+        for (name, counts) in [("tables by K", &tables[..]), ("labels in a table, by c", labels)] {
             let counts: Vec<String> = counts.iter().enumerate().map(|(number, times)| format!("{number}: {times}")).collect();
-            writeln!(f, "tables {name} {}", counts.join(" "))?;
+            writeln!(f, "{name} {}", counts.join(" "))?;
         }
         Ok(())
     }

@@ -1,7 +1,7 @@
 use mathlib.Core.Path.{_≡_, sym, _∙_, subst}
 use Prim.Native.Nat.{ℕ, _-_, _≤_}
 use native.Mathlib.Omega.{arith}
-use Rattle.coded.proofs.Numbers.{labels-none, labels-more, numbered-label, numbered-is}
+use Rattle.coded.proofs.Numbers.{labels-none, labels-more, numbered-label}
 use Rattle.coded.specs.Coded.{LabelsFrom, Numbered}
 use borrow.Author.Needs.{needs}
 use Rattle.coded.proofs.put_labels.Statement.{statement}
@@ -47,10 +47,8 @@ same-length : tie.Need-same-length Inv-loop μ-loop
 same-length c = c .before .loop .inv .1 .0 .front .size ∙ sym (c .before .before .before .pre .0 .size)
 
 returns : tie.Need-returns Inv-loop μ-loop
-returns c =
-    let e : c .before .loop .i ≡ 64 = omega (arith, c .loop-test .left, c .before .loop .inv .0) in
-    let (a, b) = subst (λ (n : ℕ). LabelsFrom (c .before .before .before .args .t1) n (c .before .loop .code) × Numbered (c .before .before .before .args .t1) 32 n (c .before .loop .code)) e (c .before .loop .inv .1) in
-    record { is = numbered-is _ _ (a .front .size) b; coded = a }
+returns c = let e : c .before .loop .i ≡ 64 = omega (arith, c .loop-test .left, c .before .loop .inv .0) in
+    subst (λ (n : ℕ). LabelsFrom (c .before .before .before .args .t1) n (c .before .loop .code) × Numbered (c .before .before .before .args .t1) 32 n (c .before .loop .code)) e (c .before .loop .inv .1)
 
 pub put-labels-spec : {M : Type 1} → statement M
 put-labels-spec =

@@ -1,9 +1,10 @@
+-- `neighbourhood::by_changes`: the contract at each of its ends. Assumes nothing.
 use Rattle.neighbourhood.proofs.Answers.{accepts, checked-of, answered-early, answered-short, answered-narrow, fillable, answered}
 use Rattle.search.proofs.Solves.{small-of}
 use native.Mathlib.Omega.{arith}
 use native.Mathlib.Nat.{mul-le-mul}
 use mathlib.Core.Path.{refl}
-use Prim.Native.Nat.{_+_, _*_, _≤_}
+use Prim.Native.Nat.{_+_, _≤_}
 use borrow.Author.Needs.{needs}
 use Rattle.neighbourhood.proofs.by_changes.Statement.{statement}
 use Rattle.neighbourhood.proofs.by_changes.Tie as tie

@@ -1,3 +1,4 @@
+-- `neighbourhood::copy_front`: number by number. Assumes nothing.
 use Rattle.neighbourhood.proofs.Entries.{Copied, copied-none, copied-more, copied-all}
 use native.Mathlib.Omega.{arith}
 use Prim.Native.Nat.{_-_, _≤_}

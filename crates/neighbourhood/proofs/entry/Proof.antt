@@ -1,3 +1,4 @@
+-- `neighbourhood::entry`: the cheapest end, or the largest number. Assumes nothing.
 use Rattle.neighbourhood.proofs.Entries.{entry-cost, entry-none}
 use borrow.Author.Needs.{needs}
 use Rattle.neighbourhood.proofs.entry.Statement.{statement}

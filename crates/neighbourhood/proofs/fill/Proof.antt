@@ -1,3 +1,4 @@
+-- `neighbourhood::fill`: the model's answer, whichever it is. Assumes nothing.
 use Rattle.neighbourhood.proofs.Slots.{ground-then}
 use Rattle.neighbourhood.proofs.Entries.{filled-16, filled-table}
 use Rattle.saved.proofs.Chains.{inside-then}

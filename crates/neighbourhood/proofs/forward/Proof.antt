@@ -1,3 +1,4 @@
+-- `neighbourhood::forward`: reading by reading, the two banks in turn. Assumes nothing.
 use Rattle.neighbourhood.proofs.Slots.{place-is, ground-then}
 use Rattle.neighbourhood.proofs.Empty.{empty-ready, start-ready, first-slots}
 use Rattle.neighbourhood.proofs.Steps.{forward-more, forward-all, other-banks}
@@ -8,8 +9,7 @@ use native.Mathlib.Omega.{arith}
 use native.Mathlib.Numerals.{add-one}
 use mathlib.Core.Path.{refl}
 use mathlib.Core.Logic.{inl}
-use Prim.Native.Nat.{ℕ, suc, _+_, _*_, _-_, _≤_}
-use borrow.Author.Needs.{needs}
+use Prim.Native.Nat.{_-_, _≤_}
 use Rattle.neighbourhood.proofs.forward.Statement.{statement}
 use Rattle.neighbourhood.proofs.forward.Tie as tie
 use Rattle.neighbourhood.proofs.forward.Reads as reads

@@ -1,3 +1,4 @@
+-- `neighbourhood::none_allowed`: an entry that is a cost, or the search, decides 16. Assumes nothing.
 use Rattle.neighbourhood.proofs.Entries.{workspace-of, decided-some, decided}
 use native.Mathlib.Omega.{arith}
 use mathlib.Core.Path.{refl}

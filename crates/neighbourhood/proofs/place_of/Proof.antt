@@ -1,8 +1,8 @@
+-- `neighbourhood::place_of`: the place after n layers. Assumes nothing.
 use native.Mathlib.Nat.{mul-le-mul}
 use native.Mathlib.Omega.{arith}
 use mathlib.Core.Path.{refl}
 use Prim.Native.Nat.{_*_, _≤_}
-use borrow.Author.Needs.{needs}
 use Rattle.neighbourhood.proofs.place_of.Statement.{statement}
 use Rattle.neighbourhood.proofs.place_of.Tie as tie
 use Rattle.neighbourhood.proofs.place_of.Reads as reads

@@ -1,14 +1,14 @@
+-- `neighbourhood::put_entries`: the entries, and whether one is a cost. Assumes nothing.
 use Rattle.neighbourhood.proofs.Slots.{slot-low, slot-place}
 use Rattle.neighbourhood.proofs.Entries.{may-read, entry-is, Entered, entered-none, entered-more, entered-all}
 use Rattle.layer.proofs.Next.{shape-small}
 use native.Mathlib.Omega.{arith}
 use native.Mathlib.Numerals.{add-one}
-use mathlib.Core.Path.{_≡_, _∙_, ap}
+use mathlib.Core.Path.{_∙_, ap}
 use mathlib.Core.Logic.{inl, inr, ⊎-elim}
-use Prim.Native.Nat.{ℕ, suc, _+_, _*_, _-_, _≤_}
+use Prim.Native.Nat.{ℕ, suc, _+_, _-_, _≤_}
 use lib.ListN.{length}
 use Rattle.neighbourhood.specs.Slots.{slotOf}
-use borrow.Author.Needs.{needs}
 use Rattle.neighbourhood.proofs.put_entries.Statement.{statement}
 use Rattle.neighbourhood.proofs.put_entries.Tie as tie
 use Rattle.neighbourhood.proofs.put_entries.Reads as reads

@@ -1,9 +1,9 @@
+-- `neighbourhood::put_nothing`: every list of slot 0 has nothing. Assumes nothing.
 use Rattle.neighbourhood.proofs.Empty.{Blank, blank-none, blank-more, blank-all}
 use native.Mathlib.Nat.{mul-le-mul, mul-le-mul-right}
 use native.Mathlib.Omega.{arith}
-use Prim.Native.Nat.{ℕ, suc, _+_, _*_, _-_, _≤_, _<_}
+use Prim.Native.Nat.{suc, _*_, _-_, _≤_}
 use Rattle.model.specs.Labels.{counts}
-use borrow.Author.Needs.{needs}
 use Rattle.neighbourhood.proofs.put_nothing.Statement.{statement}
 use Rattle.neighbourhood.proofs.put_nothing.Tie as tie
 use Rattle.neighbourhood.proofs.put_nothing.Reads as reads

@@ -1,3 +1,4 @@
+-- `neighbourhood::slot_of`: slot 0 while a slot has nothing. Assumes nothing.
 use Rattle.neighbourhood.proofs.Slots.{slot-zero, slot-late, slot-there}
 use borrow.Author.Needs.{needs}
 use Rattle.neighbourhood.proofs.slot_of.Statement.{statement}

@@ -1,10 +1,10 @@
+-- `neighbourhood::step_slots`: one step of the search's layers for each slot. Assumes nothing.
 use Rattle.neighbourhood.proofs.Slots.{bank-low, slot-low, slot-place, place-is}
 use Rattle.neighbourhood.proofs.Steps.{Stepping, stepping-none, ready-as, more-as, stepping-all}
 use Rattle.layer.proofs.Next.{shape-small}
 use native.Mathlib.Omega.{arith}
 use native.Mathlib.Numerals.{add-one}
-use Prim.Native.Nat.{ℕ, suc, _+_, _*_, _-_, _≤_}
-use borrow.Author.Needs.{needs}
+use Prim.Native.Nat.{_+_, _-_, _≤_}
 use Rattle.neighbourhood.proofs.step_slots.Statement.{statement}
 use Rattle.neighbourhood.proofs.step_slots.Tie as tie
 use Rattle.neighbourhood.proofs.step_slots.Reads as reads
