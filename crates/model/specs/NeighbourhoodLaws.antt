@@ -50,7 +50,7 @@ pub record LeastWith (P : Plan) (zs : List ℤ) (k c : ℕ) : Type 0 where
   pub met : (g : Seg) × AllowedWhole P (length zs) g × (changeCount P g ≡ k) × (cost P zs g ≡ c)
   pub least : (g : Seg) → AllowedWhole P (length zs) g → changeCount P g ≡ k → c ≤ cost P zs g
 
-pub least-with-one : (P : Plan) (zs : List ℤ) (k c d : ℕ) → LeastWith P zs k c → LeastWith P zs k d → c ≡ d
+least-with-one : (P : Plan) (zs : List ℤ) (k c d : ℕ) → LeastWith P zs k c → LeastWith P zs k d → c ≡ d
 least-with-one P zs k c d x y =
     let (g, a, p, e) = x .met in
     let (g′, a′, p′, e′) = y .met in
@@ -72,19 +72,19 @@ module _ (P : Plan) (zs : List ℤ) (built : planNumber P ≡ 0) (k : ℕ) where
       let (a, b) = and-yes (wholeTest P n g) (eqb (changeCount P g) k) (keep-in (withTest P n k) g (everySeg P n) h) in
       (test-whole P n g a, eqb-true (changeCount P g) k b)
 
-  pub listed-with : (c : ℕ) → listedWith P zs k ≡ some c → LeastWith P zs k c
+  listed-with : (c : ℕ) → listedWith P zs k ≡ some c → LeastWith P zs k c
   unfolding listedWith
   listed-with c p =
       let ((g, i, e), b) = least-in P zs (keep (withTest P n k) (everySeg P n)) c p in
       let (a, q) = kept-with-allowed g i in
       record { met = (g, a, q, e); least = λ g′ a′ q′. b g′ (kept-with g′ a′ q′) }
 
-  pub listed-with-none : listedWith P zs k ≡ none → NoneWith P n k
+  listed-with-none : listedWith P zs k ≡ none → NoneWith P n k
   unfolding listedWith
   listed-with-none p g a q = least-some P zs (keep (withTest P n k) (everySeg P n)) g p (kept-with g a q)
 
   -- what is the least, or none where there is none, is what is listed
-  pub with-is : (o : Option ℕ) → ((c : ℕ) → o ≡ some c → LeastWith P zs k c) → (o ≡ none → NoneWith P n k) → listedWith P zs k ≡ o
+  with-is : (o : Option ℕ) → ((c : ℕ) → o ≡ some c → LeastWith P zs k c) → (o ≡ none → NoneWith P n k) → listedWith P zs k ≡ o
   with-is o yes-one no-one = go (listedWith P zs k) o refl refl
     where
       go : (x y : Option ℕ) → listedWith P zs k ≡ x → o ≡ y → x ≡ y
@@ -118,7 +118,7 @@ unfolding entries
 entries-size P zs zero = refl
 entries-size P zs (suc n) = length-append (entries P zs n) (entryOf (listedWith P zs n) ∷ []) ∙ omega (arith, entries-size P zs n)
 
-pub entries-at : (P : Plan) (zs : List ℤ) (n k : ℕ) → k < n → getD (entries P zs n) k 0 ≡ entryOf (listedWith P zs k)
+entries-at : (P : Plan) (zs : List ℤ) (n k : ℕ) → k < n → getD (entries P zs n) k 0 ≡ entryOf (listedWith P zs k)
 unfolding entries
 entries-at P zs zero k h = absurd (omega arith)
 entries-at P zs (suc n) k h = go (ℕ-discrete k n) (entries-at P zs n k)
@@ -223,13 +223,13 @@ unfoldable pub leastOf : List ℕ → ℕ
 leastOf [] = mostWord
 leastOf (c ∷ cs) = min c (leastOf cs)
 
-pub least-of-low : (cs : List ℕ) (k : ℕ) → k < length cs → leastOf cs ≤ getD cs k 0
+least-of-low : (cs : List ℕ) (k : ℕ) → k < length cs → leastOf cs ≤ getD cs k 0
 unfolding leastOf
 least-of-low [] k h = absurd (omega arith)
 least-of-low (c ∷ cs) zero h = omega arith
 least-of-low (c ∷ cs) (suc k) h = omega (arith, least-of-low cs k (omega arith))
 
-pub least-of-met : (cs : List ℕ) → leastOf cs < mostWord → (k : ℕ) × (k < length cs) × (getD cs k 0 ≡ leastOf cs)
+least-of-met : (cs : List ℕ) → leastOf cs < mostWord → (k : ℕ) × (k < length cs) × (getD cs k 0 ≡ leastOf cs)
 unfolding leastOf
 least-of-met [] h = absurd (omega arith)
 least-of-met (c ∷ cs) h = go (decLe c (leastOf cs)) (least-of-met cs)
@@ -293,7 +293,7 @@ module _ (P : Plan) (zs : List ℤ) (most : ℕ) (accepts : tableNumber P (lengt
         let (g′, a′, e′, w) = met-by k′ (omega (arith, entries-size P zs (suc most))) (λ p. omega (arith, below-word g k (f .allowed) refl h)) in
         omega (arith, f .cheapest g′ a′)
 
-    pub entries-right : Entries P zs most (entries P zs (suc most))
+    entries-right : Entries P zs most (entries P zs (suc most))
     entries-right = record {
       size = entries-size P zs (suc most);
       met = met-by;

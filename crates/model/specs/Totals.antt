@@ -1,10 +1,8 @@
 -- The least costs for each number of changes, by layers and in numbers. A slot stands for a number of changes: slot 0 has nothing, and slot i + 1 the
 -- segmentations with i changes. An edge without a change stays in its slot, and an edge with one comes from the slot before. What code has to show: its
 -- first lists are those of a search in slot 1 (`total-first`) and none in every other, and its next ones `nextFrom` of the slots (`total-next`).
--- Then `total-held` says that each number is the least cost there; every number is low or none (`total-cases`), and from slot t + 1 on there is none
--- after t readings (`total-none`). Assumes nothing.
+-- Then `total-held` says that each number is the least cost there, and from slot t + 1 on there is none after t readings (`total-none`). Assumes nothing.
 use mathlib.Core.Path.{_≡_, refl, sym, _∙_, ap, subst}
-use mathlib.Core.Logic.{_⊎_, inl, inr}
 use mathlib.Core.Option.{Option, none, some}
 use mathlib.Core.List.{List}
 use mathlib.Core.Bool.{true}
@@ -64,7 +62,7 @@ change-low (Down gap) = omega arith
 change-low (Abs gap) = omega arith
 
 -- so there are fewer changes than readings
-pub changes-few : (P : Plan) (g : Seg) → changeCount P g < readings g
+changes-few : (P : Plan) (g : Seg) → changeCount P g < readings g
 unfolding changeCount readings
 changes-few P (first s m) = omega arith
 changes-few P (next g e m) = omega (arith, changes-few P g, change-low (edgeAt P e .kind))
@@ -219,10 +217,6 @@ module _ (P : Plan) (zs : List ℤ) where
   unfolding totalAt
   total-first = refl
 
-  pub total-first-none : (i k s j : ℕ) → totalAt P zs 1 (suc (suc i)) k s j ≡ noCost
-  unfolding totalAt
-  total-first-none i k s j = refl
-
   pub total-zero : (t k s j : ℕ) → totalAt P zs t 0 k s j ≡ noCost
   unfolding totalAt
   total-zero zero k s j = refl
@@ -270,20 +264,9 @@ module _ (P : Plan) (zs : List ℤ) where
         from-most P zs (R .plan) lossMost (losses P zs R) (suc t) (λ c. optWith P zs (suc t) (suc i - c)) (λ c. totalAt P zs (suc t) (suc i - c))
         (λ c. total-held (suc t) (suc i - c) (omega arith) (omega arith)) (λ c. with-low (suc t) (suc i - c)) (room (suc t) (omega arith)) k s j hj
 
-    module _ (t i k s j : ℕ) (h : 1 ≤ t) (l : t ≤ 4096) (hk : k < counts) (hs : s < P .states) (hj : j < width P) where
-      abbrev number : ℕ
-      number = totalAt P zs t i k s j
-
-      total-value : number < noCost → optWith P zs t i (node k s (P .lo +ℤ pos j)) ≡ some number
-      total-value d = sym (total-held t i h l .at k s j hk hs hj) ∙ some-held number d
-
-      -- a number is none, or at most what so many readings cost
-      pub total-cases : (number ≡ noCost) ⊎ (number ≤ t * (lossMost + penaltyMost))
-      total-cases = go (decLt number noCost) (total-most t i k s j h l hj)
-        where
-          go : Dec (number < noCost) → number ≤ noCost → (number ≡ noCost) ⊎ (number ≤ t * (lossMost + penaltyMost))
-          go (yes d) m = inr (with-low t i (node k s (P .lo +ℤ pos j)) number (total-value d))
-          go (no d) m = inl (omega arith)
+    total-value : (t i k s j : ℕ) → 1 ≤ t → t ≤ 4096 → k < counts → s < P .states → j < width P → totalAt P zs t i k s j < noCost
+        → optWith P zs t i (node k s (P .lo +ℤ pos j)) ≡ some (totalAt P zs t i k s j)
+    total-value t i k s j h l hk hs hj d = sym (total-held t i h l .at k s j hk hs hj) ∙ some-held (totalAt P zs t i k s j) d
 
     -- a slot that has a cost after t readings is one of 1 to t
     with-slot : (t i : ℕ) (v : Node) (c : Cost) → optWith P zs t i v ≡ some c → i ≤ t

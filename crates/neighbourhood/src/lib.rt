@@ -27,8 +27,11 @@ ghost use Rattle.neighbourhood.specs.Neighbourhood.{tableResult, tableWo
 ghost use Rattle.neighbourhood.specs.Slots.{slotsMost, slotOf, Emptied, Slots, Ground, Banks, StepTo, ForwardTo};
 ghost use Rattle.neighbourhood.specs.Fill.{Put, Decided, Fillable, FilledTo};
 
-// How many entries a table has at most: one for each number of changes from 0 to 32.
-const ENTRIES: usize = 33;
+// How many entries a table has at most: one for each number of changes from 0 on.
+const ENTRIES: usize = Plan::MAX_CHANGES + 1;
+
+// The entry of a number of changes that no allowed segmentation has: the largest number.
+const NO_COST: u64 = 18446744073709551615;
 
 // The place that comes after n layers.
 fn place_of(g: Shape, n: usize) -> usize
@@ -146,7 +149,7 @@ fn entry(ws: &[u64], plan: Plan, o: usize, g: Shape) -> u64
     if least < quadratic::NONE {
         return least;
     }
-    18446744073709551615
+    NO_COST
 }
 
 // The entries, at the front of a list, and whether one of them is a cost.
@@ -169,7 +172,7 @@ fn put_entries(
         let o = place_of(g, slot_of(bank, k + 1, n));
         let cost = entry(ws, plan, o, g);
         list[k] = cost;
-        if cost != 18446744073709551615 {
+        if cost != NO_COST {
             some = true;
         }
         k += 1;

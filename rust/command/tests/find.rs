@@ -1,8 +1,8 @@
 //! `find`: records to answers in one step, alone and by the folder.
 mod common;
-use common::{folder, hex, python, run_in, PAPER_PLAN};
+use common::{folder, hex, put, python, run_in, PAPER_PLAN};
 use std::fs;
-use std::path::{Path, PathBuf};
+use std::path::PathBuf;
 
 const TEXT: &str = "grid 0 to 79\nstate new start end\nstate worn end\nedge new -> new stay\nedge worn -> worn stay\n\
                     edge new -> worn up 6 penalty 50\n";
@@ -10,10 +10,6 @@ const RECORD: &str = "31\n30\n31\n42\n43\n42\n41\n42\n";
 /// Worked out by hand in the README: the squares add up to 3, the change costs 50.
 const TABLE: &str =
     "cost 53\n\nrun  first  last  state  level  edge\n  1      1     3  new       31  start\n  2      4     8  worn      42  2 (new -> worn, up 6)\n";
-
-fn put(folder: &Path, name: &str, content: &str) {
-    fs::write(folder.join(name), content).expect("file");
-}
 
 fn start(test: &str) -> PathBuf {
     let folder = folder(test);

@@ -1,45 +1,26 @@
 //! `table`: the least cost for each number of changes.
 mod common;
-use common::{folder, hex, program, python, run_in, Done};
+use common::cost_lists::{self, Case, A, BELT, DAY, SORTS, WRONG};
+use common::cost_lists::{from_input, json, lines, picture, put_sorts, put_wrong, refuses, refuses_outputs, rough};
+use common::{program, put, python, run_in, Done};
 use std::fs;
-use std::path::{Path, PathBuf};
+use std::path::PathBuf;
 use std::process::Command;
 
-/// Example A of the scope paper with class 1, and its record.
-const A: &str = "grid 0 to 4\nstate s start end\nedge s -> s stay\nedge s -> s any penalty 1\nreadings 2 1 0 4\n";
-/// Example B, and its record.
-const B: &str = "grid 0 to 6\nstate a start end\nstate b\nedge a -> a stay\nedge b -> b stay\nedge a -> b up 0 penalty 1\n\
-                 edge b -> a down 0 penalty 0\nreadings 1 5 5 1\n";
 /// The pad of the README without penalties.
 const PAD: &str = "grid 20 to 39\nstate tight start end\nstate leaking end\nedge tight -> tight stay\nedge leaking -> leaking stay\n\
                    edge tight -> leaking up 3 penalty 0\nedge leaking -> tight down 3 penalty 0\nreadings 22 23 22 26 27 22 22 23\n";
-/// Two states and changes of several kinds.
-const BELT: &str = "grid 0 to 30\nstate new start end\nstate worn end\nedge new -> new stay\nedge worn -> worn stay\n\
-                    edge new -> worn up 3 penalty 20\nedge worn -> new down 2 penalty 10\n";
-
-fn put(folder: &Path, name: &str, content: &str) {
-    fs::write(folder.join(name), content).expect("file");
-}
 
 fn start(test: &str) -> PathBuf {
-    let folder = folder(&format!("table_{test}"));
-    for (name, text) in [("a.txt", A), ("b.txt", B), ("pad.txt", PAD), ("belt.txt", BELT)] {
-        put(&folder, name, text);
-    }
-    put(&folder, "b_end.txt", &B.replace("start end", "start").replace("state b", "state b end"));
-    put(&folder, "day.csv", "1\n5\n5\n1\n");
-    folder
+    cost_lists::start(&format!("table_{test}"), &[("pad.txt", PAD), ("day.csv", DAY)])
 }
 
 fn table(folder: &PathBuf, args: &[&str]) -> Done {
     run_in(folder, &[&["table"], args].concat(), b"")
 }
 
-/// A good call without a message.
 fn shown(folder: &PathBuf, args: &[&str]) -> String {
-    let done = table(folder, args);
-    assert_eq!((done.status, done.messages().as_str()), (0, ""), "{args:?}");
-    done.text()
+    cost_lists::shown(folder, "table", args)
 }
 
 /// The costs from CSV, whatever is said beside; steps and the mark have to agree with them.
@@ -70,20 +51,6 @@ fn costs(folder: &PathBuf, args: &[&str]) -> Vec<Option<u64>> {
 /// The costs of one allowed number of changes after the other, with -1 for none.
 fn some(costs: &[i64]) -> Vec<Option<u64>> {
     costs.iter().map(|cost| u64::try_from(*cost).ok()).collect()
-}
-
-/// Numbers that look like chance, but are the same in every run.
-fn rough(count: usize, most: u32) -> Vec<i16> {
-    let mut seed = 7_u32;
-    let mut next = || {
-        seed = seed.wrapping_mul(1664525).wrapping_add(1013904223);
-        (seed >> 16) % (most + 1)
-    };
-    (0..count).map(|_| next() as i16).collect()
-}
-
-fn lines(readings: &[i16]) -> String {
-    readings.iter().map(|reading| format!("{reading}\n")).collect()
 }
 
 /// The examples of the ticket and others, worked out by the second program.
@@ -129,42 +96,21 @@ fn each_line_as_a_search_with_a_label() {
 #[test]
 fn every_sort_of_plan_and_record() {
     let folder = start("sorts");
-    put(&folder, "bare.txt", &B.replace("readings 1 5 5 1\n", ""));
-    put(
-        &folder,
-        "file.txt",
-        &B.replace("readings 1 5 5 1", "readings from named.csv column current"),
-    );
-    put(&folder, "tenths.txt", &B.replace("readings 1 5 5 1", "scale 10\ndecimal comma"));
-    put(&folder, "tenths.csv", "0,1\n0,5\n0,5\n0,1\n");
-    put(&folder, "named.csv", "time,current\n9,1\n9,5\n9,5\n9,1\n");
-    put(&folder, "12", "1\n5\n5\n1\n");
-    for (text, plan) in [("b.txt", "b.plan"), ("a.txt", "a.plan")] {
-        assert_eq!(run_in(&folder, &["make", text, "-o", plan], b"").status, 0);
-    }
-    let cases: [&[&str]; 12] = [
-        &["b.txt"],
+    put_sorts(&folder);
+    put(&folder, "12", DAY);
+    let own: [&[&str]; 5] = [
         &["b.txt", "--changes", "3"],
-        &["b.plan"],
         &["b.plan", "--changes", "03"],
-        &["file.txt"],
-        &["bare.txt", "day.csv"],
         &["bare.txt", "12"],
         &["b.plan", "day.csv", "--changes", "3"],
-        &["b.txt", "b.plan"],
-        &["bare.txt", "named.csv", "--column", "2", "--header"],
         &["tenths.txt", "tenths.csv", "--changes", "3"],
-        &["tenths.txt", "b.plan"],
     ];
-    for args in cases {
+    for args in SORTS.into_iter().chain(own) {
         assert_eq!(costs(&folder, args), some(&[16, -1, 1, -1]), "{args:?}");
     }
     assert_eq!(costs(&folder, &["b.txt", "a.plan"]), some(&[9, -1, 10, -1]));
-    for (args, input) in [(["bare.txt", "-"], b"1\n5\n5\n1\n".to_vec()), (["-", "day.csv"], B.as_bytes().to_vec())] {
-        let done = run_in(&folder, &["table", args[0], args[1], "--changes=1", "--format=csv"], &input);
-        let csv = "changes,cost,step,least\n0,16,,1\n1,,,0\n";
-        assert_eq!((done.status, done.text().as_str()), (0, csv), "{args:?}");
-    }
+    let csv = "changes,cost,step,least\n0,16,,1\n1,,,0\n";
+    from_input(&folder, "table", &["--changes=1", "--format=csv"], csv);
 }
 
 /// A line for each number of changes, readable, with none in words and a mark at the least cost.
@@ -333,34 +279,17 @@ fn labels() {
 #[test]
 fn plans_and_records_that_are_wrong() {
     let folder = start("wrong");
-    put(&folder, "gap.txt", &BELT.replace("up 3", "up 2000"));
-    put(&folder, "bad.csv", "1\n5\n5l\n");
-    put(&folder, "half.csv", "1\n5.5\n");
+    put_wrong(&folder, 20);
     put(&folder, "far.csv", "1\n500\n500\n");
-    fs::write(folder.join("cut.plan"), hex("01 0004 0000")).expect("file");
-    fs::write(folder.join("an.answer"), hex("83 0001 14")).expect("file");
-    fs::create_dir(folder.join("all")).expect("folder");
-    for (args, status, words) in [
-        (&["gap.txt", "day.csv"][..], 1, "gap.txt:6: the gap 2000 is above 1023 (refusal 6)"),
-        (&["b.txt", "bad.csv"], 1, "bad.csv:3: expected a reading"),
-        (&["cut.plan"], 1, "cut.plan: not a good plan file: "),
-        (&["an.answer"], 1, "looks like an answer file"),
-        (&["b.txt", "an.answer"], 1, "looks like an answer file"),
-        (&["belt.txt"], 1, "no record is named: yeldaski table PLAN RECORD [--changes K]"),
-        (&["missing.txt"], 2, "cannot read 'missing.txt'"),
-        (&["b.txt", "missing.csv"], 2, "cannot read 'missing.csv'"),
-        (&["b.txt", "all"], 2, "cannot read 'all'"),
-        (&["b.txt", "day.csv", "3"], 2, "2 words at most"),
-        (&["-", "-"], 2, "standard input is asked for twice"),
-        (&["b.txt", "--column", "a"], 2, "--column is about a RECORD"),
-        (&["b.txt", "--title", "a"], 2, "--title is about a picture; add --plot"),
-        (&["b.txt", "--format", "answer"], 2, "expected --format table or csv or json"),
-        (&[], 2, "table: a plan is missing"),
-    ] {
-        let done = table(&folder, args);
-        assert_eq!((done.status, done.out.len()), (status, 0), "{args:?}: {}", done.err);
-        assert!(done.err.contains(words), "{args:?}: {}", done.err);
-    }
+    refuses(|args| table(&folder, args), &WRONG);
+    refuses(
+        |args| table(&folder, args),
+        &[
+            (&["belt.txt"], 1, "no record is named: yeldaski table PLAN RECORD [--changes K]"),
+            (&["b.txt", "day.csv", "3"], 2, "2 words at most"),
+            (&[], 2, "table: a plan is missing"),
+        ],
+    );
     assert_eq!(run_in(&folder, &["make", "b.txt", "-o", "b.plan"], b"").status, 0);
     let done = table(&folder, &["b.plan", "half.csv"]);
     assert!(
@@ -382,15 +311,12 @@ fn plans_and_records_that_are_wrong() {
 #[test]
 fn csv_and_json() {
     let folder = start("exports");
-    put(&folder, "d,\"1.csv", "1\n5\n5\n1\n");
-    put(&folder, "bad.csv", "1\n5l\n");
-    let script = "import json,sys\nr, = json.load(sys.stdin)['records']\nprint(list(r))\n\
-                  print(r['record'], r['readings'], r['most'], r['refusal'], (r['sentence'] or '')[:18], r['cost'], r['least'])\n\
+    let script = "print(r['record'], r['readings'], r['most'], r['refusal'], (r['sentence'] or '')[:18], r['cost'], r['least'])\n\
                   print([(x['changes'], x['cost'], x['step']) for x in r['table']])";
     let names = "['record', 'readings', 'most', 'refusal', 'sentence', 'cost', 'least', 'table']\n";
-    for (args, status, said) in [
+    let cases: [Case; 5] = [
         (
-            &["b.txt", "d,\"1.csv", "--changes", "2"][..],
+            &["b.txt", "d,\"1.csv", "--changes", "2"],
             0,
             "d,\"1.csv 4 2 None  1 2\n[(0, 16, None), (1, None, None), (2, 1, -15)]\n",
         ),
@@ -402,10 +328,8 @@ fn csv_and_json() {
             1,
             "bad.csv None 5 None bad.csv:2: expecte None None\n[]\n",
         ),
-    ] {
-        let done = table(&folder, &[args, &["--format", "json"]].concat());
-        assert_eq!((done.status, python(script, &done.out)), (status, format!("{names}{said}")), "{args:?}");
-    }
+    ];
+    json(&folder, |args| table(&folder, args), script, names, &cases);
     let csv = shown(&folder, &["b.txt", "--changes", "2", "--format", "csv"]);
     let script = "import csv,sys\nfor r in csv.DictReader(sys.stdin, strict=True): print(list(r.values()))";
     assert_eq!(
@@ -414,13 +338,8 @@ fn csv_and_json() {
     );
 }
 
-/// The lines and the dots by another XML parser: at which part of the width, and how high up, each stands.
+/// The lines and the dots: at which part of the width, and how high up, each stands.
 const PICTURE: &str = "
-import sys, xml.etree.ElementTree as tree
-root = tree.fromstring(sys.stdin.buffer.read())
-name = '{http://www.w3.org/2000/svg}'
-frame = next(e for e in root.iter(name + 'rect') if e.get('fill') == 'none')
-x, y, w, h = [float(frame.get(k)) for k in ('x', 'y', 'width', 'height')]
 paths = [e for e in root.iter(name + 'path') if e.get('stroke-linecap')]
 points = lambda d: [tuple(map(float, pair.split())) for pair in d[1:].split('L')]
 lines = [points(e.get('d')) for e in paths if e.get('stroke-linejoin')]
@@ -443,7 +362,7 @@ assert all((a < b) == (c > d) and (a == b) == (c == d) for a, c in zip(heights, 
 fn drawn(folder: &PathBuf, args: &[&str]) -> String {
     let done = table(folder, &[args, &["--plot", "p.svg"]].concat());
     assert_eq!(done.status, 0, "{}", done.err);
-    python(PICTURE, &fs::read(folder.join("p.svg")).expect("picture"))
+    picture(folder, PICTURE)
 }
 
 /// A dot for each cost, a line between neighbours, a gap where there is none, a mark at the least.
@@ -510,26 +429,8 @@ fn many_changes_in_a_picture() {
 #[test]
 fn outputs() {
     let folder = start("outputs");
-    put(&folder, "file.txt", &B.replace("readings 1 5 5 1", "readings from day.csv"));
-    for (args, words) in [
-        (&["b.txt", "day.csv", "-o", "day.csv"][..], "'day.csv' is also an input"),
-        (&["b.txt", "day.csv", "-o", "./b.txt"], "'./b.txt' is also an input"),
-        (&["b.txt", "day.csv", "--plot", "day.csv"], "'day.csv' is also an input"),
-        (&["file.txt", "b_end.txt", "-o", "day.csv"], "'day.csv' is also an input"),
-        (
-            &["b.txt", "--plot", "x", "-o", "./x"],
-            "table: the picture and the costs would both be written to 'x'",
-        ),
-        (&["b.txt", "--plot", "-"], "--plot has to name a file or a folder"),
-        (&["b.txt", "--plot", "x.svg", "--size", "10x10"], "--size: expected"),
-        (&["b.txt", "-o", "no/folder"], "cannot write 'no/folder'"),
-    ] {
-        let done = table(&folder, args);
-        assert_eq!((done.status, done.out.len()), (2, 0), "{args:?}: {}", done.err);
-        assert!(done.err.contains(words), "{args:?}: {}", done.err);
-    }
-    assert_eq!(fs::read_to_string(folder.join("day.csv")).expect("record"), "1\n5\n5\n1\n");
-    assert!(!folder.join("x").exists() && !folder.join("x.svg").exists());
+    let both = "table: the picture and the costs would both be written to 'x'";
+    refuses_outputs(&folder, |args| table(&folder, args), both);
     fs::create_dir(folder.join("drawn")).expect("folder");
     shown(&folder, &["b.txt", "day.csv", "--plot", "drawn"]);
     assert!(folder.join("drawn/day.svg").is_file());

@@ -1,43 +1,25 @@
 //! `windows`: the least cost of every stretch of a long record.
 mod common;
-use common::{folder, hex, python, run_in, Done};
+use common::cost_lists::{self, Case, A, SORTS, WRONG};
+use common::cost_lists::{from_input, json, lines, picture, put_sorts, put_wrong, refuses, refuses_outputs, rough};
+use common::{put, python, run_in, Done};
 use std::fs;
 use std::os::unix::fs::symlink;
-use std::path::{Path, PathBuf};
+use std::path::PathBuf;
 
-/// Example A of the scope paper with class 1, and its record.
-const A: &str = "grid 0 to 4\nstate s start end\nedge s -> s stay\nedge s -> s any penalty 1\nreadings 2 1 0 4\n";
-/// Example B, and its record.
-const B: &str = "grid 0 to 6\nstate a start end\nstate b\nedge a -> a stay\nedge b -> b stay\nedge a -> b up 0 penalty 1\n\
-                 edge b -> a down 0 penalty 0\nreadings 1 5 5 1\n";
 /// One state and one level: each cost is the sum of the squares of the readings.
 const ZERO: &str = "grid 0 to 0\nstate s start end\nedge s -> s stay\n";
-/// Two states and changes of several kinds, so that costs depend on more than the sum of what is near.
-const BELT: &str = "grid 0 to 30\nstate new start end\nstate worn end\nedge new -> new stay\nedge worn -> worn stay\n\
-                    edge new -> worn up 3 penalty 20\nedge worn -> new down 2 penalty 10\n";
-
-fn put(folder: &Path, name: &str, content: &str) {
-    fs::write(folder.join(name), content).expect("file");
-}
 
 fn start(test: &str) -> PathBuf {
-    let folder = folder(&format!("windows_{test}"));
-    for (name, text) in [("a.txt", A), ("b.txt", B), ("zero.txt", ZERO), ("belt.txt", BELT)] {
-        put(&folder, name, text);
-    }
-    put(&folder, "b_end.txt", &B.replace("start end", "start").replace("state b", "state b end"));
-    folder
+    cost_lists::start(&format!("windows_{test}"), &[("zero.txt", ZERO)])
 }
 
 fn windows(folder: &PathBuf, args: &[&str]) -> Done {
     run_in(folder, &[&["windows"], args].concat(), b"")
 }
 
-/// A good call without a message.
 fn shown(folder: &PathBuf, args: &[&str]) -> String {
-    let done = windows(folder, args);
-    assert_eq!((done.status, done.messages().as_str()), (0, ""), "{args:?}");
-    done.text()
+    cost_lists::shown(folder, "windows", args)
 }
 
 /// The costs, from CSV whose first two columns have to be those of a window of `w`.
@@ -51,20 +33,6 @@ fn costs(folder: &PathBuf, w: usize, args: &[&str]) -> Vec<u64> {
         cost.parse().expect("a cost")
     };
     lines.enumerate().map(cost).collect()
-}
-
-/// Numbers that look like chance, but are the same in every run.
-fn rough(count: usize, most: u32) -> Vec<i16> {
-    let mut seed = 7_u32;
-    let mut next = || {
-        seed = seed.wrapping_mul(1664525).wrapping_add(1013904223);
-        (seed >> 16) % (most + 1)
-    };
-    (0..count).map(|_| next() as i16).collect()
-}
-
-fn lines(readings: &[i16]) -> String {
-    readings.iter().map(|reading| format!("{reading}\n")).collect()
 }
 
 /// The examples worked out by hand: A with w from 1 to 4, B with its end set and with another one.
@@ -90,44 +58,19 @@ fn the_examples() {
 #[test]
 fn every_sort_of_plan_and_record() {
     let folder = start("sorts");
-    put(&folder, "bare.txt", &B.replace("readings 1 5 5 1\n", ""));
-    put(
-        &folder,
-        "file.txt",
-        &B.replace("readings 1 5 5 1", "readings from named.csv column current"),
-    );
-    put(&folder, "tenths.txt", &B.replace("readings 1 5 5 1", "scale 10\ndecimal comma"));
-    put(&folder, "tenths.csv", "0,1\n0,5\n0,5\n0,1\n");
-    put(&folder, "day.csv", "1\n5\n5\n1\n");
-    put(&folder, "named.csv", "time,current\n9,1\n9,5\n9,5\n9,1\n");
-    for (text, plan) in [("b.txt", "b.plan"), ("a.txt", "a.plan")] {
-        assert_eq!(run_in(&folder, &["make", text, "-o", plan], b"").status, 0);
-    }
-    let cases: [&[&str]; 11] = [
-        &["b.txt"],
-        &["b.plan"],
-        &["file.txt"],
-        &["bare.txt", "day.csv"],
+    put_sorts(&folder);
+    let own: [&[&str]; 4] = [
         &["b.plan", "day.csv"],
-        &["b.txt", "b.plan"],
         &["b.plan", "named.csv", "--column", "current"],
-        &["bare.txt", "named.csv", "--column", "2", "--header"],
         &["file.txt", "named.csv"],
         &["tenths.txt", "tenths.csv"],
-        &["tenths.txt", "b.plan"],
     ];
-    for args in cases {
+    for args in SORTS.into_iter().chain(own) {
         assert_eq!(costs(&folder, 2, args), [8, 0, 8], "{args:?}");
     }
     assert_eq!(costs(&folder, 2, &["b.txt", "a.plan"]), [1, 1, 8]);
-    for (args, input) in [(["bare.txt", "-"], b"1\n5\n5\n1\n".to_vec()), (["-", "day.csv"], B.as_bytes().to_vec())] {
-        let done = run_in(&folder, &["windows", args[0], args[1], "-w2", "--format=csv"], &input);
-        assert_eq!(
-            (done.status, done.text().as_str()),
-            (0, "start,last,cost\n1,2,8\n2,3,0\n3,4,8\n"),
-            "{args:?}"
-        );
-    }
+    let csv = "start,last,cost\n1,2,8\n2,3,0\n3,4,8\n";
+    from_input(&folder, "windows", &["-w2", "--format=csv"], csv);
 }
 
 /// Small enough to be read: how many, the cheapest, and the dearest without overlap.
@@ -293,34 +236,18 @@ fn labels() {
 #[test]
 fn plans_and_records_that_are_wrong() {
     let folder = start("wrong");
-    put(&folder, "gap.txt", &BELT.replace("up 3", "up 2000"));
-    put(&folder, "bad.csv", "1\n5\n5l\n");
+    put_wrong(&folder, 16);
     put(&folder, "day.csv", "1\n5\n");
-    fs::write(folder.join("cut.plan"), hex("01 0004 0000")).expect("file");
-    fs::write(folder.join("an.answer"), hex("83 0001 10")).expect("file");
-    fs::create_dir(folder.join("all")).expect("folder");
-    for (args, status, words) in [
-        (&["gap.txt", "day.csv"][..], 1, "gap.txt:6: the gap 2000 is above 1023 (refusal 6)"),
-        (&["b.txt", "bad.csv"], 1, "bad.csv:3: expected a reading"),
-        (&["cut.plan"], 1, "cut.plan: not a good plan file: "),
-        (&["an.answer"], 1, "looks like an answer file"),
-        (&["b.txt", "an.answer"], 1, "looks like an answer file"),
-        (&["belt.txt"], 1, "no record is named: yeldaski windows PLAN RECORD --window W"),
-        (&["missing.txt"], 2, "cannot read 'missing.txt'"),
-        (&["b.txt", "missing.csv"], 2, "cannot read 'missing.csv'"),
-        (&["b.txt", "all"], 2, "cannot read 'all'"),
-        (&["b.txt", "day.csv", "day.csv"], 2, "2 words at most"),
-        (&["-", "-"], 2, "standard input is asked for twice"),
-        (&["b.txt", "--column", "a"], 2, "--column is about a RECORD"),
-        (&["b.txt", "--title", "a"], 2, "--title is about a picture; add --plot"),
-        (&["b.txt", "--format", "answer"], 2, "expected --format table or csv or json"),
-        (&[], 2, "windows: a plan is missing"),
-    ] {
-        let done = windows(&folder, &[args, &["--window", "2"]].concat());
-        assert_eq!((done.status, done.out.len()), (status, 0), "{args:?}: {}", done.err);
-        assert!(done.err.contains(words), "{args:?}: {}", done.err);
-    }
-    put(&folder, "half.csv", "1\n5.5\n");
+    let call = |args: &[&str]| windows(&folder, &[args, &["--window", "2"]].concat());
+    refuses(call, &WRONG);
+    refuses(
+        call,
+        &[
+            (&["belt.txt"], 1, "no record is named: yeldaski windows PLAN RECORD --window W"),
+            (&["b.txt", "day.csv", "day.csv"], 2, "2 words at most"),
+            (&[], 2, "windows: a plan is missing"),
+        ],
+    );
     assert_eq!(run_in(&folder, &["make", "b.txt", "-o", "b.plan"], b"").status, 0);
     for (plan, record, helps) in [("b.plan", "half.csv", true), ("b.txt", "half.csv", false), ("b.plan", "bad.csv", false)] {
         let done = windows(&folder, &[plan, record, "-w2"]);
@@ -341,41 +268,31 @@ fn plans_and_records_that_are_wrong() {
 #[test]
 fn csv_and_json() {
     let folder = start("exports");
-    put(&folder, "d,\"1.csv", "1\n5\n5\n1\n");
-    put(&folder, "bad.csv", "1\n5l\n");
-    let script = "import json,sys\nr, = json.load(sys.stdin)['records']\nprint(list(r))\n\
-                  print(r['record'], r['readings'], r['window'], r['refusal'], (r['sentence'] or '')[:18])\n\
+    let script = "print(r['record'], r['readings'], r['window'], r['refusal'], (r['sentence'] or '')[:18])\n\
                   print([(x['start'], x['last'], x['cost']) for x in r['stretches']])";
     let names = "['record', 'readings', 'window', 'refusal', 'sentence', 'stretches']\n";
-    for (args, status, said) in [
+    let cases: [Case; 4] = [
         (
-            &["b.txt", "d,\"1.csv", "-w2"][..],
+            &["b.txt", "d,\"1.csv", "-w2"],
             0,
             "d,\"1.csv 4 2 None \n[(1, 2, 8), (2, 3, 0), (3, 4, 8)]\n",
         ),
         (&["b.txt", "-w4"], 0, "b.txt 4 4 None \n[(1, 4, 1)]\n"),
         (&["b.txt", "-w5"], 1, "b.txt 4 5 19 a window of 5 read\n[]\n"),
         (&["b.txt", "bad.csv", "-w1"], 1, "bad.csv None 1 None bad.csv:2: expecte\n[]\n"),
-    ] {
-        let done = windows(&folder, &[args, &["--format", "json"]].concat());
-        assert_eq!((done.status, python(script, &done.out)), (status, format!("{names}{said}")), "{args:?}");
-    }
+    ];
+    json(&folder, |args| windows(&folder, args), script, names, &cases);
     let csv = shown(&folder, &["b.txt", "-w2", "--format", "csv"]);
     let script = "import csv,sys\nfor r in csv.DictReader(sys.stdin, strict=True): print(r)";
     let first = "{'start': '1', 'last': '2', 'cost': '8'}\n";
     assert!(python(script, csv.as_bytes()).starts_with(first));
 }
 
-/// The points of the line, by another XML parser, and the texts.
+/// The points of the line, and the texts.
 const PICTURE: &str = "
-import sys, xml.etree.ElementTree as tree
-root = tree.fromstring(sys.stdin.buffer.read())
-name = '{http://www.w3.org/2000/svg}'
 line = next(e for e in root.iter(name + 'path') if e.get('stroke-linejoin'))
 points = [tuple(map(float, pair.split())) for pair in line.get('d')[1:].split('L')]
 xs, ys = zip(*points)
-frame = next(e for e in root.iter(name + 'rect') if e.get('fill') == 'none')
-x, y, w, h = [float(frame.get(k)) for k in ('x', 'y', 'width', 'height')]
 assert all(a <= b for a, b in zip(xs, xs[1:])), 'not in order'
 assert x <= min(xs) and max(xs) <= x + w and y <= min(ys) and max(ys) < y + h - 2, 'on the frame or beyond it'
 top = min(points, key=lambda p: p[1])
@@ -387,7 +304,7 @@ print([e.text for e in root.iter(name + 'text')][-2:])
 fn drawn(folder: &PathBuf, args: &[&str]) -> (usize, String) {
     shown(folder, &[args, &["--plot", "p.svg"]].concat());
     let svg = fs::read(folder.join("p.svg")).expect("picture");
-    (svg.len(), python(PICTURE, &svg))
+    (svg.len(), picture(folder, PICTURE))
 }
 
 #[test]
@@ -430,37 +347,18 @@ fn great_costs_in_a_picture() {
         let done = windows(&folder, &args);
         assert_eq!(done.status, 0, "{}", done.err);
         assert!(done.text().contains(least), "{}", done.text());
-        let script =
-            "import sys, xml.etree.ElementTree as tree\nname = '{http://www.w3.org/2000/svg}'\nroot = tree.fromstring(sys.stdin.buffer.read())\n\
-                      left = float(next(e for e in root.iter(name + 'rect') if e.get('fill') == 'none').get('x'))\n\
-                      ticks = [e for e in root.iter(name + 'text') if e.get('text-anchor') == 'end']\n\
+        let script = "ticks = [e for e in root.iter(name + 'text') if e.get('text-anchor') == 'end']\n\
                       assert len(ticks) >= 2, 'no numbers'\n\
-                      for e in ticks: assert 20 < float(e.get('x')) - 8 * len(e.text) and float(e.get('x')) < left, e.text";
-        python(script, &fs::read(folder.join("p.svg")).expect("picture"));
+                      for e in ticks: assert 20 < float(e.get('x')) - 8 * len(e.text) and float(e.get('x')) < x, e.text";
+        picture(&folder, script);
     }
 }
 
 #[test]
 fn outputs() {
     let folder = start("outputs");
-    put(&folder, "day.csv", "1\n5\n5\n1\n");
-    put(&folder, "file.txt", &B.replace("readings 1 5 5 1", "readings from day.csv"));
-    for (args, words) in [
-        (&["b.txt", "day.csv", "-o", "day.csv"][..], "'day.csv' is also an input"),
-        (&["b.txt", "day.csv", "-o", "./b.txt"], "'./b.txt' is also an input"),
-        (&["b.txt", "day.csv", "--plot", "day.csv"], "'day.csv' is also an input"),
-        (&["file.txt", "b_end.txt", "-o", "day.csv"], "'day.csv' is also an input"),
-        (&["b.txt", "--plot", "x", "-o", "./x"], "would both be written to 'x'"),
-        (&["b.txt", "--plot", "-"], "--plot has to name a file or a folder"),
-        (&["b.txt", "--plot", "x.svg", "--size", "10x10"], "--size: expected"),
-        (&["b.txt", "-o", "no/folder"], "cannot write 'no/folder'"),
-    ] {
-        let done = windows(&folder, &[args, &["-w2"]].concat());
-        assert_eq!((done.status, done.out.len()), (2, 0), "{args:?}: {}", done.err);
-        assert!(done.err.contains(words), "{args:?}: {}", done.err);
-    }
-    assert_eq!(fs::read_to_string(folder.join("day.csv")).expect("record"), "1\n5\n5\n1\n");
-    assert!(!folder.join("x").exists() && !folder.join("x.svg").exists());
+    let call = |args: &[&str]| windows(&folder, &[args, &["-w2"]].concat());
+    refuses_outputs(&folder, call, "would both be written to 'x'");
     fs::create_dir(folder.join("drawn")).expect("folder");
     shown(&folder, &["b.txt", "day.csv", "-w2", "--plot", "drawn"]);
     assert!(folder.join("drawn/day.svg").is_file());

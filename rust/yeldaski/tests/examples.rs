@@ -16,8 +16,6 @@ fn run(first: i32, last: i32, level: i32, edge: i32) -> [i32; 5] {
     [first, last, 0, level, edge]
 }
 
-const TOY: [i16; 4] = [2, 1, 0, 4];
-
 #[test]
 fn toy_data() {
     let three = [run(1, 1, 2, 255), run(2, 3, 0, 1), run(4, 4, 4, 1)].concat();

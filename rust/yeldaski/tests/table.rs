@@ -2,8 +2,6 @@
 mod common;
 use common::*;
 
-const TOY: [i16; 4] = [2, 1, 0, 4];
-const HUMPS: [i16; 4] = [1, 5, 5, 1];
 /// Stands where no segmentation has that many changes.
 const NONE: u64 = u64::MAX;
 /// The most changes that a table may be asked for.
@@ -87,18 +85,9 @@ fn changes_at_equal_levels() {
     }
 }
 
-/// States and edges of every kind.
+/// With a stay between two states, too.
 fn mixed() -> Plan {
-    let stays = Plan::new(-9, 6, 3, 5, 6)
-        .edge(0, 0, STAY, 0, 0)
-        .edge(1, 1, STAY, 0, 0)
-        .edge(2, 2, STAY, 0, 1);
-    stays
-        .edge(0, 1, UP, 3, 4)
-        .edge(1, 2, ABS, 5, 5)
-        .edge(2, 0, DOWN, 2, 6)
-        .edge(0, 2, ANY, 0, 7)
-        .edge(2, 1, STAY, 0, 3)
+    common::mixed(-9).edge(2, 1, STAY, 0, 3)
 }
 
 fn rough(n: usize) -> Vec<i16> {
@@ -138,43 +127,26 @@ fn smallest_entry() {
 /// What can be wrong with a call, in the order of the refusals; 1 stands for all numbers of the plan reader.
 const ORDER: [u8; 7] = [1, 9, 13, 20, 14, 15, 16];
 
-/// A call with these things wrong: bit i is the i-th of the order. `other` takes the second way in which each but 1 and 16 can come about.
-fn with_wrong(wrong: usize, other: bool) -> Result<Vec<u64>, u8> {
-    let has = |number| wrong >> ORDER.iter().position(|n| *n == number).expect("a number") & 1 == 1;
-    let readings = match (has(9), other) {
-        (false, _) => vec![3; 6],
-        (true, false) => vec![],
-        (true, true) => vec![3; 4_097],
-    };
-    // no level of the grid 0..6 is 7 above another, so that state 1 is out of reach
-    let mut plan = if has(16) { plan_b(2, 7) } else { plan_b(2, 0) };
+/// A call with these things wrong.
+fn with_wrong(wrong: &Wrong) -> Result<Vec<u64>, u8> {
+    let (has, other) = (|number| wrong.has(number), wrong.other);
+    let mut plan = wrong.plan();
     if has(13) {
         plan = plan.label(1, if other { 4_096 } else { 7 }, 1);
     }
-    let mut file = plan.file(&[0]);
-    file.truncate(file.len() - usize::from(has(1)));
     let wrong_most = if other { usize::MAX } else { 33 };
+    let most = if has(20) { wrong_most } else { 2 };
     let need = 3 * WORDS_B;
     // as much as a search needs is too little
     let words = if !has(14) { need } else { [WORDS_B, need - 1][usize::from(other)] };
     let room = if !has(15) { 3 } else { 2 * usize::from(other) };
-    table(&file, &readings, if has(20) { wrong_most } else { 2 }, need, words, room)
+    table(&wrong.file(&plan), &wrong.record(6, 4_097), most, need, words, room)
 }
 
-/// Whatever is wrong, the earliest number is given.
 #[test]
 fn refuses_in_order() {
-    for wrong in 0..1 << ORDER.len() {
-        for other in [false, true] {
-            let first = ORDER.iter().enumerate().find(|(i, _)| wrong >> i & 1 == 1);
-            let costs = with_wrong(wrong, other);
-            match first {
-                Some((_, number)) => assert_eq!(costs, Err(*number), "{wrong:07b} {other}"),
-                // the record ends in state 1, so that the number of changes is odd, and one of them may keep the level
-                None => assert_eq!(costs, Ok(vec![NONE, 1, NONE])),
-            }
-        }
-    }
+    // the record ends in state 1, so that the number of changes is odd, and one of them may keep the level
+    earliest_refusal(&ORDER, with_wrong, |_| vec![NONE, 1, NONE]);
 }
 
 /// Every K that is refused, also where adding one to it or multiplying by it would not fit.

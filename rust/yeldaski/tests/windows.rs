@@ -2,9 +2,6 @@
 mod common;
 use common::*;
 
-const TOY: [i16; 4] = [2, 1, 0, 4];
-const HUMPS: [i16; 4] = [1, 5, 5, 1];
-
 /// The costs, the same with exactly sized and with larger buffers; with a list one too short it is 15, where there are costs or none is allowed.
 fn costs(plan: &Plan, record: &[i16], w: usize) -> Result<Vec<u64>, u8> {
     let (file, words) = (plan.file(&[0]), plan.words());
@@ -46,16 +43,7 @@ fn up_and_down() {
 #[test]
 fn parts_by_searches_of_their_own() {
     let record: Vec<i16> = (0..90).map(|i| (i * i * 7 % 41 - 27) as i16).collect();
-    let mut mixed = Plan::new(-20, 6, 3, 5, 6)
-        .edge(0, 0, STAY, 0, 0)
-        .edge(1, 1, STAY, 0, 0)
-        .edge(2, 2, STAY, 0, 1);
-    mixed = mixed
-        .edge(0, 1, UP, 3, 4)
-        .edge(1, 2, ABS, 5, 5)
-        .edge(2, 0, DOWN, 2, 6)
-        .edge(0, 2, ANY, 0, 7);
-    for plan in [mixed, plan_a(-25, 9, 5), plan_a(-12, -12, 2)] {
+    for plan in [mixed(-20), plan_a(-25, 9, 5), plan_a(-12, -12, 2)] {
         for w in [1, 2, 7, 64, 89, 90] {
             let parts = by_searches(&plan, &record, w);
             assert!(parts.as_ref().is_ok_and(|parts| parts.len() == 91 - w));
@@ -67,42 +55,25 @@ fn parts_by_searches_of_their_own() {
 /// What can be wrong with a call, in the order of the refusals; 1 stands for all numbers of the plan reader.
 const ORDER: [u8; 7] = [1, 9, 18, 19, 14, 15, 16];
 
-/// A call with these things wrong: bit i is the i-th of the order. `other` takes the second way in which 9, 18, 19, 14 and 15 can come about.
-fn with_wrong(wrong: usize, other: bool) -> Result<Vec<u64>, u8> {
-    let has = |number| wrong >> ORDER.iter().position(|n| *n == number).expect("a number") & 1 == 1;
+/// A call with these things wrong.
+fn with_wrong(wrong: &Wrong) -> Result<Vec<u64>, u8> {
+    let (has, other) = (|number| wrong.has(number), wrong.other);
     let (n, w) = (if other { 1_030 } else { 6 }, 3);
-    let record = match (has(9), other) {
-        (false, _) => vec![3; n],
-        (true, false) => vec![],
-        (true, true) => vec![3; 65_536],
-    };
-    // no level of the grid 0..6 is 7 above another, so that state 1 is out of reach
-    let mut plan = if has(16) { plan_b(2, 7) } else { plan_b(2, 0) };
+    let mut plan = wrong.plan();
     if has(18) {
         // also a label that reaches past the record is 18
         plan = plan.label(1, if other { 4_096 } else { 2 }, 0);
     }
-    let mut file = plan.file(&[0]);
-    file.truncate(file.len() - usize::from(has(1)));
     let wrong_w = if other { 1_025 } else { n + 1 };
+    let width = if has(19) { wrong_w } else { w };
     let words = if !has(14) { WORDS_B } else { (WORDS_B - 1) * usize::from(other) };
     let room = if !has(15) { n - w + 1 } else { (n - w) * usize::from(other) };
-    windows(&file, &record, if has(19) { wrong_w } else { w }, WORDS_B, words, room)
+    windows(&wrong.file(&plan), &wrong.record(n, 65_536), width, WORDS_B, words, room)
 }
 
-/// Whatever is wrong, the earliest number is given.
 #[test]
 fn refuses_in_order() {
-    for wrong in 0..1 << ORDER.len() {
-        for other in [false, true] {
-            let first = ORDER.iter().enumerate().find(|(i, _)| wrong >> i & 1 == 1);
-            let costs = with_wrong(wrong, other);
-            match first {
-                Some((_, number)) => assert_eq!(costs, Err(*number), "{wrong:07b} {other}"),
-                None => assert_eq!(costs, Ok(vec![1; if other { 1_028 } else { 4 }])),
-            }
-        }
-    }
+    earliest_refusal(&ORDER, with_wrong, |other| vec![1; if other { 1_028 } else { 4 }]);
 }
 
 /// Every w that is refused, with a record that is long enough for all that could be taken for a smaller one.

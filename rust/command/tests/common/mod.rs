@@ -1,9 +1,11 @@
 //! Runs the built program.
 #![allow(dead_code)]
 
+pub mod cost_lists;
+
 use std::fs;
 use std::io::Write;
-use std::path::PathBuf;
+use std::path::{Path, PathBuf};
 use std::process::{Command, Output, Stdio};
 
 pub struct Done {
@@ -34,6 +36,10 @@ pub fn folder(test: &str) -> PathBuf {
     let _ = fs::remove_dir_all(&folder);
     fs::create_dir_all(&folder).expect("folder");
     folder
+}
+
+pub fn put(folder: &Path, name: &str, content: &str) {
+    fs::write(folder.join(name), content).expect("file");
 }
 
 /// Runs a command with an input on standard input.

@@ -85,6 +85,10 @@ impl Plan {
     }
 }
 
+/// The records of the scope paper for plan A and plan B.
+pub const TOY: [i16; 4] = [2, 1, 0, 4];
+pub const HUMPS: [i16; 4] = [1, 5, 5, 1];
+
 /// Plan A of the scope paper: one state, a stay edge and an edge of kind any.
 pub fn plan_a(lo: i16, hi: i16, class: u8) -> Plan {
     Plan::new(lo, hi, 1, 1, 1).edge(0, 0, STAY, 0, 0).edge(0, 0, ANY, 0, class)
@@ -94,6 +98,67 @@ pub fn plan_a(lo: i16, hi: i16, class: u8) -> Plan {
 pub fn plan_b(end: u8, gap: u16) -> Plan {
     let stays = Plan::new(0, 6, 2, 1, end).edge(0, 0, STAY, 0, 0).edge(1, 1, STAY, 0, 0);
     stays.edge(0, 1, UP, gap, 1).edge(1, 0, DOWN, 0, 0)
+}
+
+/// States and edges of every kind, on the grid from `lo` to 6.
+pub fn mixed(lo: i16) -> Plan {
+    let stays = Plan::new(lo, 6, 3, 5, 6)
+        .edge(0, 0, STAY, 0, 0)
+        .edge(1, 1, STAY, 0, 0)
+        .edge(2, 2, STAY, 0, 1);
+    stays
+        .edge(0, 1, UP, 3, 4)
+        .edge(1, 2, ABS, 5, 5)
+        .edge(2, 0, DOWN, 2, 6)
+        .edge(0, 2, ANY, 0, 7)
+}
+
+/// What is wrong with a call that gives a list of costs.
+pub struct Wrong<'a> {
+    /// The refusals in their order; 1 stands for all numbers of the plan reader.
+    order: &'a [u8],
+    /// Bit i is the i-th of the order.
+    bits: usize,
+    /// Takes the second way in which each but 1 and 16 can come about.
+    pub other: bool,
+}
+
+impl Wrong<'_> {
+    pub fn has(&self, number: u8) -> bool {
+        self.bits >> self.order.iter().position(|n| *n == number).expect("a number") & 1 == 1
+    }
+
+    /// A record of n readings, or for 9 of none or of too many.
+    pub fn record(&self, n: usize, too_many: usize) -> Vec<i16> {
+        match (self.has(9), self.other) {
+            (false, _) => vec![3; n],
+            (true, false) => vec![],
+            (true, true) => vec![3; too_many],
+        }
+    }
+
+    pub fn plan(&self) -> Plan {
+        // no level of the grid 0..6 is 7 above another, so that state 1 is out of reach
+        plan_b(2, if self.has(16) { 7 } else { 0 })
+    }
+
+    pub fn file(&self, plan: &Plan) -> Vec<u8> {
+        let mut file = plan.file(&[0]);
+        file.truncate(file.len() - usize::from(self.has(1)));
+        file
+    }
+}
+
+/// Whatever is wrong, the earliest number of the order is given. With nothing wrong these are the costs, for each `other`.
+pub fn earliest_refusal(order: &[u8], call: impl Fn(&Wrong) -> Result<Vec<u64>, u8>, costs: impl Fn(bool) -> Vec<u64>) {
+    for bits in 0..1 << order.len() {
+        for other in [false, true] {
+            let wrong = Wrong { order, bits, other };
+            let first = order.iter().enumerate().find(|(i, _)| bits >> i & 1 == 1);
+            let expected = first.map_or_else(|| Ok(costs(other)), |(_, number)| Err(*number));
+            assert_eq!(call(&wrong), expected, "{bits:07b} {other}");
+        }
+    }
 }
 
 /// Numbers that can fill a buffer.
