@@ -30,6 +30,10 @@ pub apart-places : (W a b : ℕ) → (a ≡ b → ⊥) → (a * W + W ≤ b * W)
 apart-places W a b n =
     ⊎-elim (λ h. ⊎-elim (λ k. absurd (n (omega arith))) (λ k. inr (omega (arith, mul-le-mul-right W k))) (le-or-lt a b)) (λ h. inl (omega (arith, mul-le-mul-right W h))) (le-or-lt b a)
 
+some-slot : (i : ℕ) → (i ≡ 0 → ⊥) → 1 ≤ i
+some-slot zero n = absurd (n refl)
+some-slot (suc i) n = omega arith
+
 -- a slot is slot 0, or that of its number in the bank
 slot-cases : (b i t : ℕ) → (slotOf b i t ≡ 0) ⊎ ((slotOf b i t ≡ b + i) × (1 ≤ i) × (i ≤ t))
 unfolding slotOf
@@ -38,11 +42,7 @@ slot-cases b i t = go (eqb i 0) refl (ltb t i) refl
     go : (x : Bool) → eqb i 0 ≡ x → (y : Bool) → ltb t i ≡ y → (cond x 0 (cond y 0 (b + i)) ≡ 0) ⊎ ((cond x 0 (cond y 0 (b + i)) ≡ b + i) × (1 ≤ i) × (i ≤ t))
     go true e y f = inl refl
     go false e true f = inl refl
-    go false e false f = inr (refl, some i (eqb-false i 0 e), ltb-false t i f)
-      where
-        some : (i : ℕ) → (i ≡ 0 → ⊥) → 1 ≤ i
-        some zero n = absurd (n refl)
-        some (suc i) n = omega arith
+    go false e false f = inr (refl, some-slot i (eqb-false i 0 e), ltb-false t i f)
 
 pub slot-zero : (b i t : ℕ) → i ≡ 0 → 0 ≡ slotOf b i t
 unfolding slotOf
@@ -107,11 +107,7 @@ module _ {P : Plan} {zs : List ℤ} {most : ℕ} {g : Shape} {ws : List ℕ} (a 
           layer-as (totalAt P zs t i) (λ k s j hk hs hj. sym (ap (λ (x : ℕ). totalAt P zs t x k s j) z ∙ total-zero P zs t k s j)) (m .empty t)
       go false e true f =
           layer-as (totalAt P zs t i) (λ k s j hk hs hj. sym (total-none P zs (a .task .ready) t i k s j h (omega (arith, a .task .ready .few-readings)) (ltb-true t i f) hk hs hj)) (m .empty t)
-      go false e false f = m .slot i (some i (eqb-false i 0 e)) (ltb-false t i f) k
-        where
-          some : (i : ℕ) → (i ≡ 0 → ⊥) → 1 ≤ i
-          some zero n = absurd (n refl)
-          some (suc i) n = omega arith
+      go false e false f = m .slot i (some-slot i (eqb-false i 0 e)) (ltb-false t i f) k
 
   -- a slot of the bank at hand is apart from one of the other
   module _ {from to : ℕ} (banks : Banks most from to) (t i n : ℕ) (hi : i ≤ suc most) (some : 1 ≤ n) (hn : n ≤ suc most) where
