@@ -85,8 +85,10 @@ yeldaski_outcome yeldaski_read_plan(const uint8_t *file, size_t file_len, int16_
 yeldaski_outcome yeldaski_write_plan(const uint8_t *file, size_t file_len, const int16_t *readings, size_t readings_len, uint8_t *out,
                                      size_t out_len);
 
-/* The cheapest segmentation of `readings` that the plan of `file` allows; among equal costs the first in the order of the plan. The readings in
- * the file are not looked at. cost = its cost, count = its runs.
+/* The cheapest segmentation of `readings` that the plan of `file` allows. Among equal costs the one with the fewest changes comes first: a change is
+ * a boundary with an edge of kind 1 to 4, inside labels and outside of them. Among those with as many it is the one with the lowest state at the last
+ * reading, then the lowest level there, then, going back boundary by boundary, the lowest edge and the lowest level before it. The readings in the
+ * file are not looked at. cost = its cost, count = its runs.
  * Refuses: plan reader, 9, 13, 14, 15 (runs_len under 5 * readings_len), 16.
  * runs: on success its first 5 * count numbers are the runs and the rest stays; on refusal all of it stays.
  * workspace: on success and after 16 its first 192 * S * L words are zero and the rest stays; after any other refusal all of it stays. */

@@ -2,10 +2,10 @@
 """file_cases.py ORACLE PREFIX PLANDIR.. -- REPLYDIR..: stored cases of the programs plan_cases and answer_cases.
 
 ORACLE is the reference program; the directories are written by it:
-    ORACLE --tickets 5 gen 17 240 damaged --profile damaged
-    ORACLE --tickets 5 gen 7 240 small --profile small
-    ORACLE --tickets 5 gen 56 240 replies --profile replies
-and given in this order: damaged small -- replies. 5 is the last change request in force. With these seeds labels of
+    ORACLE --tickets 6 gen 17 240 damaged --profile damaged
+    ORACLE --tickets 6 gen 7 240 small --profile small
+    ORACLE --tickets 6 gen 56 240 replies --profile replies
+and given in this order: damaged small -- replies. 6 is the last change request in force. With these seeds labels of
 every c from 0 to 9 are read, and a c of 10, 11 and 255 is refused; answers hold the refusals 19 and 20, and 21 is refused.
 Writes PREFIXplan.stdin and .stdout, PREFIXanswer.stdin and .stdout. Each file goes to stdin with its length in two bytes in front. The expected
 lines are made of what the reference program's decode-plan and decode-answer print, never of our own output.
@@ -52,7 +52,7 @@ def store(oracle, command, files, line, prefix):
         for f in files:
             data = open(f, 'rb').read()
             given.write(struct.pack('>H', len(data)) + data)
-            text = subprocess.run([oracle, '--tickets', '5', command], input=data, capture_output=True).stdout.decode()
+            text = subprocess.run([oracle, '--tickets', '6', command], input=data, capture_output=True).stdout.decode()
             wanted.write(line(text) + '\n')
 
 

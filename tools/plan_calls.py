@@ -1,7 +1,7 @@
 #!/usr/bin/env python3
 """plan_calls.py DIR: the stored test of the program plan_calls, from cases of the oracle.
 
-DIR holds NNNN.calls and NNNN.results as `oracle --tickets 5 gen 2031 150 DIR --profile calls` writes them (5 is the last change
+DIR holds NNNN.calls and NNNN.results as `oracle --tickets 6 gen 2031 150 DIR --profile calls` writes them (6 is the last change
 request in force; with this seed labels of every c from 0 to 9 are added, and a c of 10 and 11 is refused). The plan calls of all
 scripts go to crates/plan_calls/stdin, the oracle's answers to them to crates/plan_calls/stdout. Other calls change no plan and are
 left out.

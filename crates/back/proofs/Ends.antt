@@ -3,7 +3,7 @@ use mathlib.Core.Path.{_≡_, refl, sym, _∙_, ap, subst}
 use mathlib.Core.Logic.{_⊎_, inl, inr, ⊎-elim}
 use mathlib.Core.List.{List}
 use mathlib.Core.Bool.{Bool, true, false}
-use Prim.Native.Nat.{ℕ, suc, _+_, _-_, _*_, _≤_, _<_, min}
+use Prim.Native.Nat.{ℕ, suc, _+_, _-_, _*_, _/_, _≤_, _<_, min}
 use native.Mathlib.Omega.{arith}
 use lib.ListN.{length}
 use Rattle.plan.specs.declared.Plan.{Plan}
@@ -11,12 +11,15 @@ use Rattle.model.specs.Model.{width, inSet}
 use Rattle.model.specs.Index.{noCost}
 use Rattle.model.specs.Held.{Table, minBelow}
 use Rattle.model.specs.Ends.{pointAt}
-use Rattle.quadratic.specs.Quad.{Fine}
+use Rattle.integers.specs.Rep.{le-or-lt}
+use Rattle.integers.specs.Pairs.{unit}
+use Rattle.quadratic.specs.Quad.{none, Fine}
 use Rattle.curve.specs.declared.Low.{Low}
+use Rattle.curve.specs.declared.Rank.{Rank}
 use Rattle.curve.specs.Pieces.{piece, Held}
-use Rattle.curve.specs.Lows.{costs, Least, LeastIn}
+use Rattle.curve.specs.Lows.{few, lowOf, rankOf, costs, Least, LeastIn}
 use Rattle.curve.specs.Curve.{Curve, Limits, curve-fine, curve-most}
-use Rattle.edges.specs.Edge.{Sound}
+use Rattle.edges.specs.Edge.{most, Sound}
 use Rattle.layer.specs.declared.Shape.{Shape}
 use Rattle.layer.specs.Layer.{listAt, ShapeOf}
 use Rattle.back.specs.Read.{Readable, Reads, min-one-more, min-none-yet}
@@ -29,8 +32,8 @@ module _ {n cur : ℕ} {g : Shape} {ws : List ℕ} (a : Readable n cur g ws) (k 
   pub fine : (j : ℕ) → j < g .levels → Fine 1048576 18014398509481984 (piece ws f (g .levels) j) (g .base + j)
   fine = subst (λ (o : ℕ). (j : ℕ) → j < g .levels → Fine 1048576 18014398509481984 (piece ws o (g .levels) j) (g .base + j)) (sym ef) (curve-fine (a .bounds) (a .list k s hk hs))
 
-  pub sound : Sound 18014398509481984 (g .base) (g .levels) ws f
-  sound = subst (λ (o : ℕ). Sound 18014398509481984 (g .base) (g .levels) ws o) (sym ef) (a .list k s hk hs)
+  pub sound : Sound most 18014398509481984 (g .base) (g .levels) ws f
+  sound = subst (λ (o : ℕ). Sound most 18014398509481984 (g .base) (g .levels) ws o) (sym ef) (a .list k s hk hs)
 
   module _ {H : Table} (r : Reads n cur g ws H) where
     cost-is : (j : ℕ) → j < g .levels → costs (g .base) (piece ws f (g .levels)) j ≡ H k s j
@@ -52,7 +55,7 @@ module _ {n cur : ℕ} {g : Shape} {ws : List ℕ} (a : Readable n cur g ws) (k 
             first = λ i p q. omega (arith, m .first i p q, cost-is i (omega (arith, m .high)));
           }
 
-      pub least-most : {low : Low} → Least (H k s) 0 (width P - 1) low → low .value ≤ noCost
+      pub least-most : {low : Low} → Least (H k s) 0 (width P - 1) low → lowOf low ≤ noCost
       least-most {low} l = let n = a .some in omega (arith, l .is, cost-most (low .level) (omega (arith, l .high, e .levels)))
 
 -- ---- the cost at a point, count by count
@@ -61,15 +64,25 @@ module _ {n cur : ℕ} {g : Shape} {ws : List ℕ} (a : Readable n cur g ws) (k 
 abbrev pub pointTo : ℕ → Shape → List ℕ → ℕ → ℕ → ℕ → ℕ
 pointTo cur g ws s j n = minBelow n (λ (k : ℕ). costs (g .base) (piece ws (listAt cur (g .states) (g .levels) k s) (g .levels)) j)
 
-pub point-none : (cur : ℕ) (g : Shape) (ws : List ℕ) (s j : ℕ) → noCost ≡ pointTo cur g ws s j 0
-point-none cur g ws s j = sym (min-none-yet _)
+pub point-none : (cur : ℕ) (g : Shape) (ws : List ℕ) (s j : ℕ) → none ≡ pointTo cur g ws s j 0 / unit
+point-none cur g ws s j = omega (arith, min-none-yet (λ (k : ℕ). costs (g .base) (piece ws (listAt cur (g .states) (g .levels) k s) (g .levels)) j))
 
-pub point-more : (cur : ℕ) (g : Shape) (ws : List ℕ) (s j n best f v r : ℕ) → best ≡ pointTo cur g ws s j n → f ≡ listAt cur (g .states) (g .levels) n s
-    → v ≡ costs (g .base) (piece ws f (g .levels)) j → r ≡ min best v → r ≡ pointTo cur g ws s j (n + 1)
-point-more cur g ws s j n best f v r eb ef ev er =
-    er ∙ ap (λ (x : ℕ). min x v) eb ∙ ap (min (pointTo cur g ws s j n)) (ev ∙ ap (λ (o : ℕ). costs (g .base) (piece ws o (g .levels)) j) ef) ∙ sym (min-one-more n _)
+-- the cost of the lesser is the lesser cost
+min-cost : (x y : ℕ) → min (x / unit) (y / unit) ≡ min x y / unit
+min-cost x y = ⊎-elim
+    (λ h. let e : min x y ≡ x = omega arith in rw e (omega arith))
+    (λ h. let e : min x y ≡ y = omega arith in rw e (omega arith))
+    (le-or-lt x y)
 
-pub point-all : {n cur : ℕ} {g : Shape} {ws : List ℕ} {H : Table} (s j m best : ℕ) → Reads n cur g ws H → s < g .states → j < g .levels → m ≡ n → best ≡ pointTo cur g ws s j m → best ≡ pointAt n H s j
+pub point-more : (cur : ℕ) (g : Shape) (ws : List ℕ) (s j n best f : ℕ) (v : Rank) (r : ℕ) → best ≡ pointTo cur g ws s j n / unit → f ≡ listAt cur (g .states) (g .levels) n s
+    → rankOf v ≡ costs (g .base) (piece ws f (g .levels)) j → v .changes ≤ few → r ≡ min best (v .value) → r ≡ pointTo cur g ws s j (n + 1) / unit
+point-more cur g ws s j n best f v r eb ef ev hv er =
+    let here : ℕ = costs (g .base) (piece ws (listAt cur (g .states) (g .levels) n s) (g .levels)) j in
+    let w : rankOf v ≡ here = ev ∙ ap (λ (o : ℕ). costs (g .base) (piece ws o (g .levels)) j) ef in
+    let c : v .value ≡ here / unit = omega arith in
+    er ∙ ap (λ (x : ℕ). min x (v .value)) eb ∙ ap (min (pointTo cur g ws s j n / unit)) c ∙ min-cost (pointTo cur g ws s j n) here ∙ ap (λ (x : ℕ). x / unit) (sym (min-one-more n _))
+
+pub point-all : {n cur : ℕ} {g : Shape} {ws : List ℕ} {H : Table} (s j m best : ℕ) → Reads n cur g ws H → s < g .states → j < g .levels → m ≡ n → best ≡ pointTo cur g ws s j m / unit → best ≡ pointAt n H s j / unit
 unfolding pointAt
 point-all {n} {cur} {g} {ws} {H} s j m best r hs hj e b =
-    b ∙ ap (pointTo cur g ws s j) e ∙ min-ext n _ _ (λ k hk. r .at k s j hk hs hj)
+    b ∙ ap (λ (x : ℕ). pointTo cur g ws s j x / unit) e ∙ ap (λ (x : ℕ). x / unit) (min-ext n _ _ (λ k hk. r .at k s j hk hs hj))

@@ -7,19 +7,22 @@ use mathlib.Core.Bool.{Bool, true, false, _&&_}
 use Prim.Native.Nat.{ℕ, suc, _+_, _-_, _*_, _≤_, _<_}
 use native.Mathlib.Omega.{arith}
 use lib.Dec.{eqb, ltb}
-use borrow.Author.Tests.{ltb-true, ltb-false, eqb-true, eqb-false, lt-ltb, eq-eqb}
+use borrow.Author.Tests.{ltb-true, eqb-true, lt-ltb, eq-eqb, ne-eqb}
 use Rattle.integers.specs.Rep.{le-or-lt}
+use Rattle.integers.specs.Pairs.{lex}
+use Rattle.quadratic.specs.Quad.{none}
 use Rattle.plan.specs.declared.Plan.{Plan}
 use Rattle.plan.specs.declared.Edge.{Edge}
 use Rattle.plan.specs.declared.Label.{Label}
-use Rattle.model.specs.Model.{width, edgeAt, penalty, penaltyOf}
+use Rattle.model.specs.Bools.{same-test}
+use Rattle.model.specs.Model.{width, edgeAt, penalty, changeOf}
 use Rattle.model.specs.Labels.{labelOn, used, countBefore}
 use Rattle.model.specs.Index.{noCost, Permitted, edgeMin}
-use Rattle.model.specs.Held.{Table, fromCount, leadsAt, edgeLeast}
+use Rattle.model.specs.Held.{Table, fromCount, leadsAt, edgeLeast, edgeWeight}
 use Rattle.labels.specs.Boundary.{leadsFrom, leads-at, leads-from-used}
 use Rattle.curve.specs.declared.Low.{Low}
 use Rattle.curve.specs.Pieces.{piece}
-use Rattle.curve.specs.Lows.{costs}
+use Rattle.curve.specs.Lows.{few, lowOf, costs}
 use Rattle.edges.specs.Back.{LeastOf, Offered, offered, offered-none, least-same}
 use Rattle.layer.specs.declared.Shape.{Shape}
 use Rattle.layer.specs.Layer.{listAt, ShapeOf}
@@ -27,27 +30,18 @@ use Rattle.layer.specs.Step.{source}
 use Rattle.back.specs.Read.{Readable, Reads}
 use Rattle.back.specs.Step.{meetsAt, MayOffer, Offers, BackReady, Meets, StepFound}
 
-pub offers-none : (o : Option Label) (t : ℕ) (x : Edge) (k s j cur : ℕ) (g : Shape) (ws : List ℕ) (r : Low) → leadsFrom o t x k s ≡ false → noCost ≤ r .value → Offers o t x k s j cur g ws r
-offers-none o t x k s j cur g ws r e h = record { off = λ q. h; on = λ q. let z : _≡_ {A = Bool} true false = sym q ∙ e in let y : _≡_ {A = ℕ} 0 1 = cc in absurd (omega arith) }
+pub offers-none : (o : Option Label) (t : ℕ) (x : Edge) (k s j cur : ℕ) (g : Shape) (ws : List ℕ) (r : Low) → leadsFrom o t x k s ≡ false → noCost ≤ lowOf r → r .changes ≤ few → Offers o t x k s j cur g ws r
+offers-none o t x k s j cur g ws r e h n = record { changes = n; off = λ q. h; on = λ q. let z : _≡_ {A = Bool} true false = sym q ∙ e in let y : _≡_ {A = ℕ} 0 1 = cc in absurd (omega arith) }
 
 pub offers-some : (o : Option Label) (t : ℕ) (x : Edge) (k s j cur : ℕ) (g : Shape) (ws : List ℕ) (r : Low) (f : ℕ) → leadsFrom o t x k s ≡ true → f ≡ source o t x k cur g
     → LeastOf (λ (i : ℕ). Permitted (x .kind) i j) (g .levels) (costs (g .base) (piece ws f (g .levels))) r → Offers o t x k s j cur g ws r
 offers-some o t x k s j cur g ws r f e ef l = record {
+  changes = l .changes;
   off = λ q. let z : _≡_ {A = Bool} true false = sym e ∙ q in let y : _≡_ {A = ℕ} 0 1 = cc in absurd (omega arith);
   on = λ q. subst (λ (p : ℕ). LeastOf (λ (i : ℕ). Permitted (x .kind) i j) (g .levels) (costs (g .base) (piece ws p (g .levels))) r) ef l;
 }
 
 -- ---- the tests
-
-pub meets-low : (v p w : ℕ) → v < noCost → eqb (v + p) w ≡ meetsAt v p w
-meets-low v p w h = rw (lt-ltb v noCost h) refl
-
-pub meets-none : (v p w : ℕ) → noCost ≤ v → false ≡ meetsAt v p w
-meets-none v p w h = go (ltb v noCost) refl
-  where
-    go : (b : Bool) → ltb v noCost ≡ b → false ≡ b && eqb (v + p) w
-    go true e = absurd (omega (arith, ltb-true v noCost e))
-    go false e = refl
 
 meets-yes : (v p w : ℕ) → meetsAt v p w ≡ true → (v < noCost) × (v + p ≡ w)
 meets-yes v p w h = go (ltb v noCost) refl h
@@ -55,6 +49,28 @@ meets-yes v p w h = go (ltb v noCost) refl h
     go : (b : Bool) → ltb v noCost ≡ b → (b && eqb (v + p) w) ≡ true → (v < noCost) × (v + p ≡ w)
     go true e q = (ltb-true v noCost e, eqb-true (v + p) w q)
     go false e q = let z : _≡_ {A = ℕ} 0 1 = cc in absurd (omega arith)
+
+meets-low : (v p w : ℕ) → v < noCost → eqb (v + p) w ≡ meetsAt v p w
+meets-low v p w h = rw (lt-ltb v noCost h) refl
+
+-- by the cost, and then by the changes
+module _ (low : Low) (pen ch want changes : ℕ) (one : ch ≤ 1) (few-low : low .changes ≤ few) (few-want : changes ≤ few) where
+  pub meets-none : none ≤ low .value → false ≡ meetsAt (lowOf low) (lex pen ch) (lex want changes)
+  meets-none h = go (ltb (lowOf low) noCost) refl
+    where
+      go : (b : Bool) → ltb (lowOf low) noCost ≡ b → false ≡ b && eqb (lowOf low + lex pen ch) (lex want changes)
+      go true e = absurd (omega (arith, ltb-true (lowOf low) noCost e))
+      go false e = refl
+
+  pub meets-cost : low .value < none → low .value + pen ≡ want → eqb (low .changes + ch) changes ≡ meetsAt (lowOf low) (lex pen ch) (lex want changes)
+  meets-cost h e =
+      same-test (eqb (low .changes + ch) changes) (eqb (lowOf low + lex pen ch) (lex want changes))
+      (λ p. eq-eqb (lowOf low + lex pen ch) (lex want changes) (omega (arith, eqb-true (low .changes + ch) changes p)))
+      (λ p. eq-eqb (low .changes + ch) changes (omega (arith, eqb-true (lowOf low + lex pen ch) (lex want changes) p)))
+      ∙ meets-low (lowOf low) (lex pen ch) (lex want changes) (omega arith)
+
+  pub meets-other : low .value < none → (low .value + pen ≡ want → ⊥) → false ≡ meetsAt (lowOf low) (lex pen ch) (lex want changes)
+  meets-other h n = sym (ne-eqb (lowOf low + lex pen ch) (lex want changes) (λ e. n (omega arith))) ∙ meets-low (lowOf low) (lex pen ch) (lex want changes) (omega arith)
 
 -- ---- one edge
 
@@ -93,25 +109,25 @@ module _ {P : Plan} {o : Option Label} {t k s j : ℕ} {g : Shape} (a : BackRead
         go false p = inr p
 
     -- the test fails: it is not this edge
-    pub not-this : meetsAt (low .value) (penaltyOf P e) want ≡ false → Meets P t H k s j want e → ⊥
+    pub not-this : meetsAt (lowOf low) (edgeWeight P e) want ≡ false → Meets P t H k s j want e → ⊥
     not-this n (l, v, w) = ⊎-elim
         (λ x. omega (arith, offered-none (edgeAt P e .kind) j (a .index) (here l) x))
         (λ x. no (offered (edgeAt P e .kind) j (a .index) (here l) x) x)
-        (le-or-lt noCost (low .value))
+        (le-or-lt noCost (lowOf low))
       where
-        no : Offered (width P) (edgeAt P e .kind) (H (fromCount P t e k) (edgeAt P e .from)) j low → low .value < noCost → ⊥
+        no : Offered (width P) (edgeAt P e .kind) (H (fromCount P t e k) (edgeAt P e .from)) j low → lowOf low < noCost → ⊥
         no q x =
-            let z : eqb (low .value + penaltyOf P e) want ≡ true = eq-eqb (low .value + penaltyOf P e) want (omega (arith, q .is)) in
-            let y : _≡_ {A = Bool} true false = sym z ∙ meets-low (low .value) (penaltyOf P e) want x ∙ n in
+            let z : eqb (lowOf low + edgeWeight P e) want ≡ true = eq-eqb (lowOf low + edgeWeight P e) want (omega (arith, q .is)) in
+            let y : _≡_ {A = Bool} true false = sym z ∙ meets-low (lowOf low) (edgeWeight P e) want x ∙ n in
             let u : _≡_ {A = ℕ} 0 1 = cc in omega arith
 
     -- it passes, and no edge before did
-    pub is-this : meetsAt (low .value) (penaltyOf P e) want ≡ true → ((e′ : ℕ) → e′ < e → Meets P t H k s j want e′ → ⊥) → StepFound P t H k s j want e (low .level) (low .value)
-    is-this y lowest = ⊎-elim found (λ x. absurd (omega (arith, f .off (led e ∙ x), meets-yes (low .value) (penaltyOf P e) want y))) leads-or
+    pub is-this : meetsAt (lowOf low) (edgeWeight P e) want ≡ true → ((e′ : ℕ) → e′ < e → Meets P t H k s j want e′ → ⊥) → StepFound P t H k s j want e (low .level) (lowOf low)
+    is-this y lowest = ⊎-elim found (λ x. absurd (omega (arith, f .off (led e ∙ x), meets-yes (lowOf low) (edgeWeight P e) want y))) leads-or
       where
-        found : leadsAt P t e k s ≡ true → StepFound P t H k s j want e (low .level) (low .value)
+        found : leadsAt P t e k s ≡ true → StepFound P t H k s j want e (low .level) (lowOf low)
         found l =
-            let (v, w) = meets-yes (low .value) (penaltyOf P e) want y in
+            let (v, w) = meets-yes (lowOf low) (edgeWeight P e) want y in
             let q = offered (edgeAt P e .kind) j (a .index) (here l) v in
             record {
               known = h;
@@ -133,8 +149,9 @@ module _ (P : Plan) (e : ℕ) (x : Edge) (q : x ≡ edgeAt P e) where
   offers-of {o} {t} {k} {s} {j} {cur} {g} {ws} {low} f = subst (λ (y : Edge). Offers o t y k s j cur g ws low) q f
 
   -- the penalty as code looked it up
-  pub test-of : (v w : ℕ) {b : Bool} (pen : ℕ) → pen ≡ penalty (x .class) → b ≡ meetsAt v pen w → meetsAt v (penaltyOf P e) w ≡ b
-  test-of v w pen ep eb = ap (λ (n : ℕ). meetsAt v n w) (ap (λ (y : Edge). penalty (y .class)) (sym q) ∙ sym ep) ∙ sym eb
+  pub test-of : (v w : ℕ) {b : Bool} (pen ch : ℕ) → pen ≡ penalty (x .class) → ch ≡ changeOf (x .kind) → b ≡ meetsAt v (lex pen ch) w → meetsAt v (edgeWeight P e) w ≡ b
+  test-of v w pen ch ep ec eb =
+      ap (λ (n : ℕ). meetsAt v n w) (ap (λ (y : Edge). lex (penalty (y .class)) (changeOf (y .kind))) (sym q) ∙ ap (λ (n : ℕ). lex n (changeOf (x .kind))) (sym ep) ∙ ap (lex pen) (sym ec)) ∙ sym eb
 
 pub none-before : (P : Plan) (t : ℕ) (H : Table) (k s j want i : ℕ) → ((e : ℕ) → e < i → Meets P t H k s j want e → ⊥) → (Meets P t H k s j want i → ⊥) → (e : ℕ) → e < i + 1 → Meets P t H k s j want e → ⊥
 none-before P t H k s j want i f n e h m = ⊎-elim (λ q. let z : e ≡ i = omega arith in n (subst (λ (x : ℕ). Meets P t H k s j want x) z m)) (λ q. f e q m) (le-or-lt i e)

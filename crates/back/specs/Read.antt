@@ -9,6 +9,8 @@ use native.Mathlib.Nat.{mul-le-mul-right}
 use lib.IntN.{ℤ}
 use lib.ListN.{length}
 use Rattle.integers.specs.Rep.{le-or-lt}
+use Rattle.integers.specs.Pairs.{lex}
+use Rattle.quadratic.specs.Quad.{none}
 use Rattle.plan.specs.declared.Plan.{Plan}
 use Rattle.model.specs.Model.{width, inSet}
 use Rattle.model.specs.Labels.{labelOn, counts, usedAt, used-most}
@@ -18,11 +20,11 @@ use Rattle.model.specs.Held.{Table, minBelow, min-none, penaltyMost}
 use Rattle.model.specs.Ends.{endAt}
 use Rattle.curve.specs.declared.Low.{Low}
 use Rattle.curve.specs.Pieces.{piece}
-use Rattle.curve.specs.Lows.{costs, Least, LeastIn}
+use Rattle.curve.specs.Lows.{lowOf, costs, Least, LeastIn}
 use Rattle.curve.specs.Curve.{Curve, Limits, curve-costs, curve-wider, curve-most}
-use Rattle.edges.specs.Edge.{Sound}
+use Rattle.edges.specs.Edge.{most, Sound}
 use Rattle.layer.specs.declared.Shape.{Shape}
-use Rattle.layer.specs.Layer.{stepMost, baseOf, placeMost, listAt, Shape-small, ShapeOf, LayerOf}
+use Rattle.layer.specs.Layer.{readingMost, countMost, baseOf, placeMost, listAt, Shape-small, ShapeOf, LayerOf}
 use Rattle.layer.specs.Next.{Task}
 use Rattle.layer.proofs.Next.{to-shape, limits, shape-small, some-levels, list-is}
 use Rattle.back.specs.declared.End.{End}
@@ -36,8 +38,8 @@ pub record Readable (n cur : ℕ) (g : Shape) (ws : List ℕ) : Type 0 where
   pub small : Shape-small g
   pub some : 0 < g .levels
   pub place : cur ≤ placeMost
-  pub bounds : Limits 1048576 18014398509481984 (g .base) (g .levels)
-  pub list : (k s : ℕ) → k < n → s < g .states → Sound 18014398509481984 (g .base) (g .levels) ws (listAt cur (g .states) (g .levels) k s)
+  pub bounds : Limits most 18014398509481984 (g .base) (g .levels)
+  pub list : (k s : ℕ) → k < n → s < g .states → Sound most 18014398509481984 (g .base) (g .levels) ws (listAt cur (g .states) (g .levels) k s)
 
 -- and they cost H
 pub record Reads (n cur : ℕ) (g : Shape) (ws : List ℕ) (H : Table) : Type 0 where
@@ -47,14 +49,18 @@ pub record Reads (n cur : ℕ) (g : Shape) (ws : List ℕ) (H : Table) : Type 0 
 abbrev pub endsBelow : Plan → Table → ℕ → ℕ
 endsBelow P H n = minBelow n (λ (s : ℕ). minBelow (width P) (λ (j : ℕ). endAt P H s j))
 
+-- its value: the cost with its changes, as one number
+abbrev pub endOf : End → ℕ
+endOf r = lex (r .value) (r .changes)
+
 -- the cheapest end in the states below n: lowest state, then lowest level
 pub record EndTo (P : Plan) (H : Table) (n : ℕ) (r : End) : Type 0 where
-  pub is : r .value ≡ endsBelow P H n
-  pub state : r .value < noCost → r .state < n
-  pub level : r .value < noCost → r .level < width P
-  pub met : r .value < noCost → endAt P H (r .state) (r .level) ≡ r .value
-  pub lowest : r .value < noCost → (s j : ℕ) → s < n → j < width P → endAt P H s j ≡ r .value → Upto (r .state) (r .level) s j
-  pub nowhere : noCost ≤ r .value → (r .state ≡ 0) × (r .level ≡ 0)
+  pub is : endOf r ≡ endsBelow P H n
+  pub state : endOf r < noCost → r .state < n
+  pub level : endOf r < noCost → r .level < width P
+  pub met : endOf r < noCost → endAt P H (r .state) (r .level) ≡ endOf r
+  pub lowest : endOf r < noCost → (s j : ℕ) → s < n → j < width P → endAt P H s j ≡ endOf r → Upto (r .state) (r .level) s j
+  pub nowhere : noCost ≤ endOf r → (r .state ≡ 0) × (r .level ≡ 0)
 
 -- ---- the model's least
 
@@ -100,7 +106,7 @@ module _ {P : Plan} {H : Table} {s : ℕ} {best : End} (a : EndTo P H s best) wh
         nowhere = a .nowhere;
       }
 
-  module _ (e : inSet (P .end) s ≡ true) (low : Low) (l : Least (H 0 s) 0 (width P - 1) low) (most : low .value ≤ noCost) where
+  module _ (e : inSet (P .end) s ≡ true) (low : Low) (l : Least (H 0 s) 0 (width P - 1) low) (high : lowOf low ≤ noCost) where
     here : (j : ℕ) → endAt P H s j ≡ H 0 s j
     unfolding endAt
     here j = rw e refl
@@ -109,17 +115,17 @@ module _ {P : Plan} {H : Table} {s : ℕ} {best : End} (a : EndTo P H s best) wh
     unfolding width
     inside = omega (arith, l .high)
 
-    least-here : minBelow (width P) (λ (j : ℕ). endAt P H s j) ≡ low .value
+    least-here : minBelow (width P) (λ (j : ℕ). endAt P H s j) ≡ lowOf low
     unfolding width
     least-here =
         min-is (width P) (λ (j : ℕ). endAt P H s j) (low .level) inside (omega (arith, here (low .level), l .is)) (λ j h. omega (arith, here (low .level), here j, l .is, l .least j (omega arith) (omega arith)))
         ∙ here (low .level) ∙ sym (l .is)
 
-    more : endsBelow P H (s + 1) ≡ min (endsBelow P H s) (low .value)
+    more : endsBelow P H (s + 1) ≡ min (endsBelow P H s) (lowOf low)
     more = min-one-more s (λ (s : ℕ). minBelow (width P) (λ (j : ℕ). endAt P H s j)) ∙ ap (min (endsBelow P H s)) least-here
 
     -- it is better
-    pub end-better : low .value < best .value → EndTo P H (s + 1) (record { value = low .value; state = s; level = low .level })
+    pub end-better : lowOf low < endOf best → EndTo P H (s + 1) (record { value = low .value; changes = low .changes; state = s; level = low .level })
     unfolding width
     end-better h = record {
       is = omega (arith, more, a .is);
@@ -133,11 +139,11 @@ module _ {P : Plan} {H : Table} {s : ℕ} {best : End} (a : EndTo P H s best) wh
       nowhere = λ k. absurd (omega (arith, a .is, min-none s (λ (s : ℕ). minBelow (width P) (λ (j : ℕ). endAt P H s j))));
     }
       where
-        later : (j : ℕ) → j < width P → endAt P H s j ≡ low .value → low .level ≤ j
+        later : (j : ℕ) → j < width P → endAt P H s j ≡ lowOf low → low .level ≤ j
         later j hj q = ⊎-elim (λ p. p) (λ p. absurd (omega (arith, l .first j (omega arith) p, here j, q))) (le-or-lt (low .level) j)
 
     -- it is not
-    pub end-kept : best .value ≤ low .value → EndTo P H (s + 1) best
+    pub end-kept : endOf best ≤ lowOf low → EndTo P H (s + 1) best
     end-kept h = record {
       is = omega (arith, more, a .is);
       state = λ k. omega (arith, a .state k);
@@ -147,7 +153,7 @@ module _ {P : Plan} {H : Table} {s : ℕ} {best : End} (a : EndTo P H s best) wh
       nowhere = a .nowhere;
     }
 
-pub end-none : (P : Plan) (H : Table) → EndTo P H 0 (record { value = 1152921504606846976; state = 0; level = 0 })
+pub end-none : (P : Plan) (H : Table) → EndTo P H 0 (record { value = none; changes = 0; state = 0; level = 0 })
 unfolding minBelow
 end-none P H = record {
   is = refl;
@@ -164,7 +170,7 @@ end-all {P} {H} {n} {m} {r} e a = subst (λ (x : ℕ). EndTo P H x r) e a
 -- ---- a layer may be read
 
 module _ {P : Plan} {zs : List ℤ} {g : Shape} (a : Task P zs g) {t cur : ℕ} {H : Table} {ws : List ℕ} (l : LayerOf P t H ws cur) where
-  list-here : (k s : ℕ) → k < usedAt P t → s < g .states → Curve t (t * stepMost) (g .base) (g .levels) ws (listAt cur (g .states) (g .levels) k s) (H k s)
+  list-here : (k s : ℕ) → k < usedAt P t → s < g .states → Curve (t * countMost) (t * readingMost) (g .base) (g .levels) ws (listAt cur (g .states) (g .levels) k s) (H k s)
   list-here k s hk hs = to-shape (a .shape) (rw (a .shape .states, a .shape .levels) (l .list k s hk (omega (arith, a .shape .states))))
 
   pub layer-reads : Reads (usedAt P t) cur g ws H
@@ -176,8 +182,8 @@ module _ {P : Plan} {zs : List ℤ} {g : Shape} (a : Task P zs g) {t cur : ℕ} 
     small = shape-small a;
     some = some-levels a;
     place = h;
-    bounds = limits a 1048576 18014398509481984 (omega arith) (omega arith);
-    list = λ k s hk hs. curve-costs (curve-wider 1048576 18014398509481984 (omega arith) (omega (arith, mul-le-mul-right stepMost few)) (list-here k s hk hs));
+    bounds = limits a most 18014398509481984 (omega arith) (omega arith);
+    list = λ k s hk hs. curve-costs (curve-wider most 18014398509481984 (omega arith) (omega (arith, mul-le-mul-right readingMost few)) (list-here k s hk hs));
   }
 
 -- fewer counts of it

@@ -9,15 +9,16 @@ use Rattle.plan.specs.declared.Plan.{Plan}
 use Rattle.plan.specs.declared.Edge.{Edge}
 use Rattle.plan.specs.declared.Label.{Label}
 use Rattle.plan.specs.Build.{gapOf}
-use Rattle.model.specs.Model.{width, edgeAt, penaltyOf}
+use Rattle.integers.specs.Pairs.{lex}
+use Rattle.model.specs.Model.{width, edgeAt}
 use Rattle.model.specs.Labels.{labelOn, counts}
 use Rattle.model.specs.Checked.{Checked}
 use Rattle.model.specs.Index.{noCost, Permitted}
-use Rattle.model.specs.Held.{Table, fromCount, leadsAt, edgeLeast}
+use Rattle.model.specs.Held.{Table, fromCount, leadsAt, edgeLeast, edgeWeight}
 use Rattle.labels.specs.Boundary.{leadsFrom}
 use Rattle.curve.specs.declared.Low.{Low}
 use Rattle.curve.specs.Pieces.{piece}
-use Rattle.curve.specs.Lows.{costs}
+use Rattle.curve.specs.Lows.{few, lowOf, costs}
 use Rattle.edges.specs.Back.{LeastOf}
 use Rattle.layer.specs.declared.Shape.{Shape}
 use Rattle.layer.specs.Layer.{ShapeOf}
@@ -25,9 +26,9 @@ use Rattle.layer.specs.Step.{source}
 use Rattle.back.specs.declared.Back.{Back}
 use Rattle.back.specs.declared.Back.the-variants.{To, Lost}
 
--- a cost there is, which with the penalty is the wanted one
+-- a value there is, which with the edge's weight is the wanted one
 abbrev pub meetsAt : ℕ → ℕ → ℕ → Bool
-meetsAt value pen want = ltb value noCost && eqb (value + pen) want
+meetsAt value weight want = ltb value noCost && eqb (value + weight) want
 
 pub record MayOffer (o : Option Label) (t : ℕ) (x : Edge) (k s j : ℕ) (g : Shape) : Type 0 where
   pub boundary : t < 65536
@@ -37,8 +38,9 @@ pub record MayOffer (o : Option Label) (t : ℕ) (x : Edge) (k s j : ℕ) (g : S
   pub gap : gapOf (x .kind) ≤ 1023
 
 pub record Offers (o : Option Label) (t : ℕ) (x : Edge) (k s j cur : ℕ) (g : Shape) (ws : List ℕ) (r : Low) : Type 0 where
-  pub off : leadsFrom o t x k s ≡ false → noCost ≤ r .value
+  pub off : leadsFrom o t x k s ≡ false → noCost ≤ lowOf r
   pub on : leadsFrom o t x k s ≡ true → LeastOf (λ (i : ℕ). Permitted (x .kind) i j) (g .levels) (costs (g .base) (piece ws (source o t x k cur g) (g .levels))) r
+  pub changes : r .changes ≤ few
 
 pub record BackReady (P : Plan) (o : Option Label) (t k s j : ℕ) (g : Shape) : Type 0 where
   pub checked : Checked P
@@ -48,9 +50,9 @@ pub record BackReady (P : Plan) (o : Option Label) (t k s j : ℕ) (g : Shape) :
   pub count : k < counts
   pub index : j < width P
 
--- the edge leads here, and its least over the permitted levels with its penalty is the wanted cost
+-- the edge leads here, and its least over the permitted levels with its penalty and its change is the wanted value
 abbrev pub Meets : Plan → ℕ → Table → ℕ → ℕ → ℕ → ℕ → ℕ → Type 0
-Meets P t H k s j want e = (leadsAt P t e k s ≡ true) × (edgeLeast P t H k j e < noCost) × (edgeLeast P t H k j e + penaltyOf P e ≡ want)
+Meets P t H k s j want e = (leadsAt P t e k s ≡ true) × (edgeLeast P t H k j e < noCost) × (edgeLeast P t H k j e + edgeWeight P e ≡ want)
 
 -- the lowest such edge, and the lowest level with its least
 pub record StepFound (P : Plan) (t : ℕ) (H : Table) (k s j want e i v : ℕ) : Type 0 where
@@ -64,5 +66,5 @@ pub record StepFound (P : Plan) (t : ℕ) (H : Table) (k s j want e i v : ℕ) :
   pub first : (i′ : ℕ) → i′ < i → Permitted (edgeAt P e .kind) i′ j → H (fromCount P t e k) (edgeAt P e .from) i′ ≡ edgeLeast P t H k j e → ⊥
 
 abbrev pub StepTo : Plan → ℕ → Table → ℕ → ℕ → ℕ → ℕ → Back → Type 0
-StepTo P t H k s j want (To e i v) = StepFound P t H k s j want e i v
+StepTo P t H k s j want (To e i v c) = StepFound P t H k s j want e i (lex v c) × (c ≤ few)
 StepTo P t H k s j want Lost = (e : ℕ) → e < P .edgecount → Meets P t H k s j want e → ⊥

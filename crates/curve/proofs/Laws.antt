@@ -2,61 +2,66 @@
 use mathlib.Core.Path.{_≡_, refl, sym, ap, _∙_, subst}
 use mathlib.Core.Logic.{_⊎_, inl, inr, ⊎-elim}
 use mathlib.Core.List.{List, _++_}
-use Prim.Native.Nat.{ℕ, zero, suc, _+_, _*_, _-_, _≤_, _<_}
+use Prim.Native.Nat.{ℕ, zero, suc, _+_, _*_, _-_, _/_, _%_, _≤_, _<_}
 use native.Mathlib.Omega.{arith}
 use lib.ListN.{length, getD, set, take, drop, length-set, length-drop, List·getD-append}
 use lib.Seq.{paste, getD-set-same, getD-set-other, getD-take, getD-drop, getD-append-add, length-take-le, length-paste, length-paste-head, ext-getD}
 use Rattle.integers.specs.Rep.{le-or-lt}
-use Rattle.quadratic.specs.declared.Quad.{Quad}
-use mathlib.Core.Bool.{Bool, true, false}
-use lib.Dec.{eqb, leb}
+use mathlib.Core.Bool.{Bool, true, false, cond}
+use lib.Dec.{eqb, leb, ltb}
 use borrow.Author.Tests.{le-leb, lt-leb}
-use Rattle.quadratic.specs.Quad.{Small, Sized, Fine, Stays, Under, Over, value, pick, better, raised, none, flat, moved, mirrored}
+use Rattle.quadratic.specs.Fine.{quad-eq, late-most}
+use Rattle.quadratic.specs.declared.Packed.{Packed}
+use Rattle.quadratic.specs.Quad.{Quad, quad, Small, Sized, Fine, Stays, Under, Over, up, down, value, pick, late, better, raised, none, flat, absent, moved, mirrored}
 use Rattle.curve.specs.Pieces.{endOf, startOf, quadAt, piece, Formed, Built, Is, Kept, Same, Stored, Appended, Emits, Made, Held, Lent, shiftOf, mirrorOf, Turnable, Yields}
 use Rattle.curve.specs.Lists.{last-or, start-next, start-zero, count-le, end-lt, piece-at, same-quad, built-put, built-longer, kept-same, kept-refl, kept-then, kept-wider, kept-lent, same-end, same-start, opened, count-same, count-most, built-most, emits-none, emits-append}
 
 pub set-kept : (ws : List ℕ) (i v : ℕ) → Kept ws (set ws i v) i 1
 set-kept ws i v = record { size = simp length-set; before = λ j h. getD-set-other ws i j v 0 (λ e. omega arith); after = λ j h. getD-set-other ws i j v 0 (λ e. omega arith) }
 
-module _ (ws : List ℕ) (at : ℕ) (end : ℕ) (q : Quad) (h : at + 4 ≤ length ws) where
+module _ (ws : List ℕ) (at : ℕ) (end : ℕ) (q : Packed) (h : at + 4 ≤ length ws) where
   w1 : List ℕ
   w1 = set ws at end
 
   w2 : List ℕ
-  w2 = set (set ws at end) (at + 1) (q .a)
+  w2 = set (set ws at end) (at + 1) (q .w)
 
   w3 : List ℕ
-  w3 = set (set (set ws at end) (at + 1) (q .a)) (at + 2) (q .z)
+  w3 = set (set (set ws at end) (at + 1) (q .w)) (at + 2) (q .z)
 
   put4 : List ℕ
-  put4 = set (set (set (set ws at end) (at + 1) (q .a)) (at + 2) (q .z)) (at + 3) (q .c)
+  put4 = set (set (set (set ws at end) (at + 1) (q .w)) (at + 2) (q .z)) (at + 3) (q .c)
 
   other : (l : List ℕ) (i j v : ℕ) → (j ≡ i → ⊥) → getD (set l i v) j 0 ≡ getD l j 0
   other l i j v ne = getD-set-other l i j v 0 ne
 
-  ea : getD (set (set (set (set ws at end) (at + 1) (q .a)) (at + 2) (q .z)) (at + 3) (q .c)) (at + 1) 0 ≡ q .a
+  ea : getD (set (set (set (set ws at end) (at + 1) (q .w)) (at + 2) (q .z)) (at + 3) (q .c)) (at + 1) 0 ≡ q .w
   unfolding w1 w2 w3
-  ea = other w3 (at + 3) (at + 1) (q .c) (λ e. omega arith) ∙ other w2 (at + 2) (at + 1) (q .z) (λ e. omega arith) ∙ getD-set-same w1 (at + 1) (q .a) 0 (simp length-set (omega arith))
+  ea = other w3 (at + 3) (at + 1) (q .c) (λ e. omega arith) ∙ other w2 (at + 2) (at + 1) (q .z) (λ e. omega arith) ∙ getD-set-same w1 (at + 1) (q .w) 0 (simp length-set (omega arith))
 
-  ez : getD (set (set (set (set ws at end) (at + 1) (q .a)) (at + 2) (q .z)) (at + 3) (q .c)) (at + 2) 0 ≡ q .z
+  ez : getD (set (set (set (set ws at end) (at + 1) (q .w)) (at + 2) (q .z)) (at + 3) (q .c)) (at + 2) 0 ≡ q .z
   unfolding w1 w2 w3
   ez = other w3 (at + 3) (at + 2) (q .c) (λ e. omega arith) ∙ getD-set-same w2 (at + 2) (q .z) 0 (simp length-set (omega arith))
 
-  ec : getD (set (set (set (set ws at end) (at + 1) (q .a)) (at + 2) (q .z)) (at + 3) (q .c)) (at + 3) 0 ≡ q .c
+  ec : getD (set (set (set (set ws at end) (at + 1) (q .w)) (at + 2) (q .z)) (at + 3) (q .c)) (at + 3) 0 ≡ q .c
   unfolding w1 w2 w3
   ec = getD-set-same w3 (at + 3) (q .c) 0 (simp length-set (omega arith))
 
-  ee : getD (set (set (set (set ws at end) (at + 1) (q .a)) (at + 2) (q .z)) (at + 3) (q .c)) at 0 ≡ end
+  ee : getD (set (set (set (set ws at end) (at + 1) (q .w)) (at + 2) (q .z)) (at + 3) (q .c)) at 0 ≡ end
   unfolding w1 w2 w3
-  ee = other w3 (at + 3) at (q .c) (λ e. omega arith) ∙ other w2 (at + 2) at (q .z) (λ e. omega arith) ∙ other w1 (at + 1) at (q .a) (λ e. omega arith) ∙ getD-set-same ws at end 0 (omega arith)
+  ee = other w3 (at + 3) at (q .c) (λ e. omega arith) ∙ other w2 (at + 2) at (q .z) (λ e. omega arith) ∙ other w1 (at + 1) at (q .w) (λ e. omega arith) ∙ getD-set-same ws at end 0 (omega arith)
 
-  pub stored : Stored ws (set (set (set (set ws at end) (at + 1) (q .a)) (at + 2) (q .z)) (at + 3) (q .c)) at end q
+  pub stored : Stored ws (set (set (set (set ws at end) (at + 1) (q .w)) (at + 2) (q .z)) (at + 3) (q .c)) at end (quad q)
   unfolding w1 w2 w3
   stored = record {
-    kept = kept-then (kept-then (kept-then (kept-wider at 4 (set-kept ws at end) (omega arith) (omega arith)) (set-kept w1 (at + 1) (q .a)) (omega arith) (omega arith)) (set-kept w2 (at + 2) (q .z)) (omega arith) (omega arith)) (set-kept w3 (at + 3) (q .c)) (omega arith) (omega arith);
+    kept = kept-then (kept-then (kept-then (kept-wider at 4 (set-kept ws at end) (omega arith) (omega arith)) (set-kept w1 (at + 1) (q .w)) (omega arith) (omega arith)) (set-kept w2 (at + 2) (q .z)) (omega arith) (omega arith)) (set-kept w3 (at + 3) (q .c)) (omega arith) (omega arith);
     last = ee;
     quad = rw (ea, ez, ec);
   }
+
+-- a constant as code keeps it
+pub flat-packed : (c k : ℕ) → quad (record { w = 4294967296 * k; z = 0; c = c }) ≡ flat c k
+flat-packed c k = quad-eq (quad (record { w = 4294967296 * k; z = 0; c = c })) (flat c k) (omega arith) refl refl (omega arith)
 
 -- ---- append
 pub appended-new : (ws ws′ : List ℕ) (dst n end : ℕ) (q : Quad) → Stored ws ws′ (dst + 4 * n) end q → Appended ws ws′ dst n end q (n + 1)
@@ -88,10 +93,14 @@ appended-back ws dst n end q p l e =
 
 -- ---- the better of two
 pub small : {q : Quad} → Sized q → Small q
-small s = record { count = s .count; sum = s .sum; rest = omega (arith, s .rest) }
+small s = record { count = s .count; sum = s .sum; rest = omega (arith, s .rest); few = s .few }
 
-pub small-more : {q : Quad} → Sized q → Small (record { a = q .a; z = q .z; c = q .c + 1 })
-small-more s = record { count = s .count; sum = s .sum; rest = omega (arith, s .rest) }
+-- with something more, as one of two is compared
+abbrev pub with : Quad → ℕ → Quad
+with q n = record { a = q .a; z = q .z; c = n; k = q .k }
+
+pub small-with : {q : Quad} (n : ℕ) → Sized q → n ≤ q .c + 1 → Small (with q n)
+small-with n s h = record { count = s .count; sum = s .sum; rest = omega (arith, s .rest); few = s .few }
 
 -- one level alone, and a crossing counted from base
 pub stays-one : (p q : Quad) (base a y : ℕ) → a ≡ y → Under p q (base + a) → Stays p q (base + a) (base + y) (base + y)
@@ -107,20 +116,22 @@ stays-from p q base a y r t =
     let e : r ≡ base + (r - base) = omega (arith, t .low) in
     subst (λ (k : ℕ). Stays p q (base + a) (base + y) k) e t
 
-pub better-first : (p q : Quad) (base a y r : ℕ) → Stays p q (base + a) (base + y) (base + r) → (j : ℕ) → a ≤ j → j ≤ r → p ≡ better (base + j) p q
-better-first p q base a y r t j u v = sym (ap (λ (b : Bool). pick b p q) (le-leb _ _ (t .under (base + j) (omega arith) (omega arith))))
+pub better-first : (p q : Quad) (base a y r n : ℕ) → n ≡ p .c + late (p .k) (q .k) → Stays (with p n) q (base + a) (base + y) (base + r) → (j : ℕ) → a ≤ j → j ≤ r → p ≡ better (base + j) p q
+better-first p q base a y r n e t j u v =
+    let o : up p (base + j) + down q (base + j) + late (p .k) (q .k) ≤ up q (base + j) + down p (base + j) = omega (arith, t .under (base + j) (omega arith) (omega arith)) in
+    sym (ap (λ (b : Bool). pick b p q) (le-leb _ _ o))
 
-pub better-second : (p q : Quad) (base a y r : ℕ) → Stays (record { a = q .a; z = q .z; c = q .c + 1 }) p (base + a) (base + y) (base + r) → (j : ℕ) → a ≤ j → j ≤ r → q ≡ better (base + j) p q
-better-second p q base a y r t j u v =
-    let o : Over p q (base + j) = omega (arith, t .under (base + j) (omega arith) (omega arith)) in
+pub better-second : (p q : Quad) (base a y r n : ℕ) → n ≡ q .c + 1 - late (p .k) (q .k) → Stays (with q n) p (base + a) (base + y) (base + r) → (j : ℕ) → a ≤ j → j ≤ r → q ≡ better (base + j) p q
+better-second p q base a y r n e t j u v =
+    let o : up q (base + j) + down p (base + j) < up p (base + j) + down q (base + j) + late (p .k) (q .k) = omega (arith, late-most (p .k) (q .k), t .under (base + j) (omega arith) (omega arith)) in
     sym (ap (λ (b : Bool). pick b p q) (lt-leb _ _ o))
 
-small-pick : (b : Bool) (k : ℕ) (q : Quad) → Sized (pick b q (record { a = q .a; z = q .z; c = q .c + k })) → Small q
-small-pick true k q s = small s
-small-pick false k q s = record { count = s .count; sum = s .sum; rest = omega (arith, s .rest) }
+small-pick : (b : Bool) (pen ch : ℕ) (q : Quad) → Sized (pick b q (record { a = q .a; z = q .z; c = q .c + pen; k = q .k + ch })) → Small q
+small-pick true pen ch q s = small s
+small-pick false pen ch q s = record { count = s .count; sum = s .sum; rest = omega (arith, s .rest); few = omega (arith, s .few) }
 
-pub small-raised : (k : ℕ) (q : Quad) → Sized (raised k q) → Small q
-small-raised k q s = small-pick (eqb (q .c) none) k q s
+pub small-raised : (pen ch : ℕ) (q : Quad) → Sized (raised pen ch q) → Small q
+small-raised pen ch q s = small-pick (eqb (q .c) none) pen ch q s
 
 -- ---- reading along a list: x is a level of the ith piece, or the list is at its end
 pub record At (ws : List ℕ) (o L i x : ℕ) : Type 0 where
@@ -212,8 +223,8 @@ seen {ws₀} {ws} {dst} {len} {o} {L} {i} {x} k h l a g = record {
     e : endOf ws o i ≡ endOf ws₀ o i
     e = same-end m i (omega (arith, s .within (l .formed)))
 
-pub raised-same : (pen : ℕ) {p q : Quad} → p ≡ q → raised pen p ≡ raised pen q
-raised-same pen e = ap (raised pen) e
+pub raised-same : (pen ch : ℕ) {p q : Quad} → p ≡ q → raised pen ch p ≡ raised pen ch q
+raised-same pen ch e = ap (raised pen ch) e
 
 pub better-same : (v : ℕ) {p p′ q q′ : Quad} → p ≡ p′ → q ≡ q′ → better v p q ≡ better v p′ q′
 better-same v {p} {p′} {q} {q′} e g = ap (λ (t : Quad). better v t q) e ∙ ap (λ (t : Quad). better v p′ t) g
@@ -236,14 +247,14 @@ pub emits-no : (F : ℕ → Quad) (ws : List ℕ) (dst n x y : ℕ) → x ≤ y 
 emits-no F ws dst n x y h g = let e : y ≡ x = omega arith in rw e (emits-none F ws dst n x)
 
 -- ---- shifted
-pub shift-none : (g j : ℕ) (F : ℕ → Quad) → j < g → flat none ≡ shiftOf g F j
-shift-none g j F h = sym (ap (λ (b : Bool). pick b (moved g (F (j - g))) (flat none)) (lt-leb g j h))
+pub shift-none : (g j : ℕ) (F : ℕ → Quad) → j < g → absent ≡ shiftOf g F j
+shift-none g j F h = sym (ap (λ (b : Bool). pick b (moved g (F (j - g))) absent) (lt-leb g j h))
 
 pub shift-moved : (g j : ℕ) (F : ℕ → Quad) (q : Quad) → g ≤ j → F (j - g) ≡ q → moved g q ≡ shiftOf g F j
-shift-moved g j F q h e = sym (ap (λ (b : Bool). pick b (moved g (F (j - g))) (flat none)) (le-leb g j h) ∙ ap (λ (t : Quad). moved g t) e)
+shift-moved g j F q h e = sym (ap (λ (b : Bool). pick b (moved g (F (j - g))) absent) (le-leb g j h) ∙ ap (λ (t : Quad). moved g t) e)
 
 pub shift-same : (g j L : ℕ) (F G : ℕ → Quad) → ((i : ℕ) → i < L → F i ≡ G i) → j < L → shiftOf g F j ≡ shiftOf g G j
-shift-same g j L F G f h = ap (λ (t : Quad). pick (leb g j) (moved g t) (flat none)) (f (j - g) (omega arith))
+shift-same g j L F G f h = ap (λ (t : Quad). pick (leb g j) (moved g t) absent) (f (j - g) (omega arith))
 
 pub at-most : {ws : List ℕ} {o L i x : ℕ} → At ws o L i x → (f : Formed ws o L) → i ≤ f .count
 at-most a f = omega (arith, a .inside, count-same (a .formed) f)

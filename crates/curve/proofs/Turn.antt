@@ -6,8 +6,7 @@ use Prim.Native.Nat.{ℕ, _+_, _*_, _-_, _≤_, _<_}
 use native.Mathlib.Omega.{arith}
 use native.Mathlib.Decide.{decLt}
 use Rattle.integers.specs.Rep.{le-or-lt}
-use Rattle.quadratic.specs.declared.Quad.{Quad}
-use Rattle.quadratic.specs.Quad.{mirrored}
+use Rattle.quadratic.specs.Quad.{Quad, mirrored}
 use Rattle.curve.specs.Pieces.{endOf, startOf, quadAt, piece, Formed, Built, Is, Kept, Same, Stored, Made, Lent, mirrorOf}
 use Rattle.curve.specs.Lists.{start-next, start-zero, end-lt, piece-at, kept-refl, kept-then, kept-wider, kept-lent, same-end, same-quad, count-most, count-is, formed, closed}
 use Rattle.curve.proofs.Laws.{At, Seen, seen, start-pos}

@@ -12,8 +12,7 @@ use lib.ListN.{length, getD}
 use borrow.Author.Tests.{le-leb, lt-leb, eqb-true}
 use Rattle.integers.specs.Rep.{le-or-lt}
 use Rattle.quadratic.specs.Fine.{pickN}
-use Rattle.quadratic.specs.declared.Quad.{Quad}
-use Rattle.quadratic.specs.Quad.{none}
+use Rattle.quadratic.specs.Quad.{Quad, none}
 use Rattle.curve.specs.Pieces.{endOf, startOf, quadAt, seek, piece, noneOnly, Formed, Built, Is, Kept, Same, Apart, Stored, Appended, Emits, Made, Held, Lent, Copied}
 
 pub start-next : (ws : List ℕ) (o k : ℕ) → startOf ws o (k + 1) ≡ endOf ws o k + 1

@@ -1,24 +1,52 @@
--- The least of a function's values, and the lowest level that has it. Assumes nothing.
+-- The least of a function's values, and the lowest level that has it. A value is a cost with its changes as one number. Assumes nothing.
 use mathlib.Core.Path.{_≡_, refl, sym, ap, _∙_, subst}
 use mathlib.Core.Logic.{_⊎_, inl, inr, ⊎-elim}
 use mathlib.Core.List.{List}
-use Prim.Native.Nat.{ℕ, zero, suc, _+_, _*_, _-_, _≤_, _<_}
+use Prim.Native.Nat.{ℕ, zero, suc, _+_, _*_, _-_, _/_, _%_, _≤_, _<_}
 use native.Mathlib.Numerals.{add-one}
 use native.Mathlib.Omega.{arith}
 use lib.Dec.{ltb}
 use borrow.Author.Tests.{lt-ltb, le-ltb}
 use Rattle.integers.specs.Rep.{le-or-lt}
-use Rattle.quadratic.specs.declared.Quad.{Quad}
+use Rattle.integers.specs.Pairs.{unit, lex, first-is, second-is}
 use Rattle.quadratic.specs.Fine.{pickN}
-use Rattle.quadratic.specs.Quad.{value, none, flat, pick, Fine, up, down, Under, Over}
+use Rattle.quadratic.specs.Quad.{Quad, value, none, noValue, flat, pick, Fine, up, down, Under, Over}
+use Rattle.curve.specs.declared.Rank.{Rank}
 use Rattle.curve.specs.declared.Low.{Low}
 use Rattle.curve.specs.declared.Run.{Run}
 use Rattle.curve.specs.declared.Two.{Two}
 use Rattle.curve.specs.Pieces.{piece, Emits}
 
--- more than any value
+-- more than any cost, and more than any value
+abbrev pub topCost : ℕ
+topCost = 1152921504606846977
+
 abbrev pub top : ℕ
-top = 1152921504606846977
+top = unit * topCost
+
+-- no more changes than this are in force anywhere
+abbrev pub few : ℕ
+few = 1048576
+
+-- the values that are handed on
+abbrev pub rankOf : Rank → ℕ
+rankOf r = lex (r .value) (r .changes)
+
+abbrev pub lowOf : Low → ℕ
+lowOf r = lex (r .value) (r .changes)
+
+abbrev pub bestOf : Run → ℕ
+bestOf r = lex (r .best) (r .changes)
+
+abbrev pub leastOf : Two → ℕ
+leastOf r = lex (r .value) (r .changes)
+
+abbrev pub secondOf : Two → ℕ
+secondOf r = lex (r .second) (r .secondchanges)
+
+-- the quadratic that has a value everywhere
+abbrev pub levelled : ℕ → Quad
+levelled x = flat (x / unit) (x % unit)
 
 -- what F costs at each level
 abbrev pub costs : ℕ → (ℕ → Quad) → ℕ → ℕ
@@ -28,18 +56,20 @@ costs base F j = value (F j) (base + j)
 pub record Least (G : ℕ → ℕ) (from to : ℕ) (r : Low) : Type 0 where
   pub low : from ≤ r .level
   pub high : r .level ≤ to
-  pub is : r .value ≡ G (r .level)
-  pub least : (m : ℕ) → from ≤ m → m ≤ to → r .value ≤ G m
-  pub first : (m : ℕ) → from ≤ m → m < r .level → r .value < G m
+  pub is : lowOf r ≡ G (r .level)
+  pub least : (m : ℕ) → from ≤ m → m ≤ to → lowOf r ≤ G m
+  pub first : (m : ℕ) → from ≤ m → m < r .level → lowOf r < G m
 
 -- what stands for the least where there is no level: more than any, at level 0
 abbrev pub noLow : Low
-noLow = record { value = top; level = 0 }
+noLow = record { value = topCost; changes = 0; level = 0 }
 
 -- the same on a range that may be empty
 pub record LeastIn (G : ℕ → ℕ) (from to : ℕ) (r : Low) : Type 0 where
   pub some : from ≤ to → Least G from to r
   pub empty : to < from → r ≡ noLow
+  pub changes : r .changes ≤ few
+  pub high : r .value ≤ topCost
 
 -- the least of G at the levels below j, and top where there are none
 unfoldable pub lowest : (ℕ → ℕ) → ℕ → ℕ
@@ -48,23 +78,25 @@ lowest G (suc j) = pickN (ltb (G j) (lowest G j)) (G j) (lowest G j)
 
 -- F where it is less than at every level before; else the least before
 abbrev pub prefixOf : ℕ → (ℕ → Quad) → ℕ → Quad
-prefixOf base F j = pick (ltb (costs base F j) (lowest (costs base F) j)) (F j) (flat (lowest (costs base F) j))
+prefixOf base F j = pick (ltb (costs base F j) (lowest (costs base F) j)) (F j) (levelled (lowest (costs base F) j))
 
--- r is the first level of [a, v] at which p is less than best
+-- r is the first level of [a, v] at which p costs less than best
 pub record Drops (p : Quad) (best a v base r : ℕ) : Type 0 where
   pub low : a ≤ r
   pub high : r ≤ v
-  pub before : (m : ℕ) → a ≤ m → m < r → Under (flat best) p (base + m)
-  pub at : Over (flat best) p (base + r)
+  pub before : (m : ℕ) → a ≤ m → m < r → Under (flat best 0) p (base + m)
+  pub at : Over (flat best 0) p (base + r)
 
 -- the pieces of the least so far at the levels from a to e, where p is in force
 pub record Prefixed (ws ws′ : List ℕ) (dst base a e : ℕ) (p : Quad) (run r : Run) : Type 0 where
-  pub on : (F : ℕ → Quad) → ((j : ℕ) → a ≤ j → j ≤ e → F j ≡ p) → lowest (costs base F) a ≡ run .best → Emits (prefixOf base F) ws ws′ dst (run .n) a (e + 1) (r .n) × (lowest (costs base F) (e + 1) ≡ r .best)
+  pub on : (F : ℕ → Quad) → ((j : ℕ) → a ≤ j → j ≤ e → F j ≡ p) → lowest (costs base F) a ≡ bestOf run → Emits (prefixOf base F) ws ws′ dst (run .n) a (e + 1) (r .n) × (lowest (costs base F) (e + 1) ≡ bestOf r)
+  pub changes : r .changes ≤ few
 
 -- r is best, or p's least on [a, b], at its lowest level, where that is less
 pub record Lowered (best : Low) (p : Quad) (a b base : ℕ) (r : Low) : Type 0 where
-  pub least : (m : ℕ) → a ≤ m → m ≤ b → r .value ≤ value p (base + m)
-  pub is : (r ≡ best) ⊎ (((a ≤ r .level) × (r .level ≤ b)) × ((r .value ≡ value p (base + r .level)) × ((r .value < best .value) × ((m : ℕ) → a ≤ m → m < r .level → r .value < value p (base + m)))))
+  pub least : (m : ℕ) → a ≤ m → m ≤ b → lowOf r ≤ value p (base + m)
+  pub is : (r ≡ best) ⊎ (((a ≤ r .level) × (r .level ≤ b)) × ((lowOf r ≡ value p (base + r .level)) × ((lowOf r < lowOf best) × ((m : ℕ) → a ≤ m → m < r .level → lowOf r < value p (base + m)))))
+  pub changes : r .changes ≤ few
 
 -- x is G's at a level below L that is not i
 pub record Beside (G : ℕ → ℕ) (L i x : ℕ) : Type 0 where
@@ -76,21 +108,24 @@ pub record Beside (G : ℕ → ℕ) (L i x : ℕ) : Type 0 where
 -- r is the least of G at the levels below L, the lowest level that has it, and the least at the other levels; none where there is no level, or no
 -- other
 pub record TwoLeast (G : ℕ → ℕ) (L : ℕ) (r : Two) : Type 0 where
-  pub least : (m : ℕ) → m < L → r .value ≤ G m
-  pub first : (m : ℕ) → m < r .level → r .value < G m
-  pub is : ((r .value ≡ none) × (r .level ≡ 0)) ⊎ ((r .level < L) × (r .value ≡ G (r .level)))
-  pub others : (m : ℕ) → m < L → (m ≡ r .level → ⊥) → r .second ≤ G m
-  pub second : (r .second ≡ none) ⊎ Beside G L (r .level) (r .second)
+  pub least : (m : ℕ) → m < L → leastOf r ≤ G m
+  pub first : (m : ℕ) → m < r .level → leastOf r < G m
+  pub is : ((leastOf r ≡ noValue) × (r .level ≡ 0)) ⊎ ((r .level < L) × (leastOf r ≡ G (r .level)))
+  pub others : (m : ℕ) → m < L → (m ≡ r .level → ⊥) → secondOf r ≤ G m
+  pub second : (secondOf r ≡ noValue) ⊎ Beside G L (r .level) (secondOf r)
+  pub changes : r .changes ≤ few
+  pub second-changes : r .secondchanges ≤ few
 
 -- best is of the levels below a, r of those up to e, and from a on p is in force
 pub record TwoLowered (best : Two) (p : Quad) (a e base : ℕ) (r : Two) : Type 0 where
-  pub on : (G : ℕ → ℕ) → ((j : ℕ) → a ≤ j → j ≤ e → (G j ≡ value p (base + j)) × (G j ≤ none)) → TwoLeast G a best → TwoLeast G (e + 1) r
+  pub on : (G : ℕ → ℕ) → ((j : ℕ) → a ≤ j → j ≤ e → (G j ≡ value p (base + j)) × (G j ≤ noValue)) → TwoLeast G a best → TwoLeast G (e + 1) r
 
 -- r is the less of best and of p at v, where v lies in [x, y]; else best
-pub record LessAt (best : ℕ) (p : Quad) (v x y r : ℕ) : Type 0 where
-  pub low : r ≤ best
-  pub there : x ≤ v → v ≤ y → r ≤ value p v
-  pub is : (r ≡ best) ⊎ (((x ≤ v) × (v ≤ y)) × (r ≡ value p v))
+pub record LessAt (best : Rank) (p : Quad) (v x y : ℕ) (r : Rank) : Type 0 where
+  pub low : rankOf r ≤ rankOf best
+  pub there : x ≤ v → v ≤ y → rankOf r ≤ value p v
+  pub is : (rankOf r ≡ rankOf best) ⊎ (((x ≤ v) × (v ≤ y)) × (rankOf r ≡ value p v))
+  pub changes : r .changes ≤ few
 
 -- ---- laws
 pub lowest-zero : (G : ℕ → ℕ) → lowest G 0 ≡ top
@@ -140,8 +175,11 @@ lowest-among G (suc j) =
 pub prefix-new : (base : ℕ) (F : ℕ → Quad) (j : ℕ) → costs base F j < lowest (costs base F) j → prefixOf base F j ≡ F j
 prefix-new base F j h = rw (lt-ltb (costs base F j) (lowest (costs base F) j) h)
 
-pub prefix-old : (base : ℕ) (F : ℕ → Quad) (j b : ℕ) → lowest (costs base F) j ≡ b → b ≤ costs base F j → prefixOf base F j ≡ flat b
+pub prefix-old : (base : ℕ) (F : ℕ → Quad) (j b : ℕ) → lowest (costs base F) j ≡ b → b ≤ costs base F j → prefixOf base F j ≡ levelled b
 prefix-old base F j b e h = rw (e, le-ltb (costs base F j) b h)
+
+pub levelled-is : (x k : ℕ) → k ≤ few → levelled (lex x k) ≡ flat x k
+levelled-is x k h = rw (first-is x k (omega arith), second-is x k (omega arith))
 
 pub lowest-most : (G : ℕ → ℕ) (j : ℕ) → lowest G j ≤ top
 lowest-most G zero = omega (arith, lowest-zero G)

@@ -1,16 +1,16 @@
--- A cost function in the workspace: pieces of four words from o on (the last level of the piece, a, z, c), their last levels rising, the
--- last one L − 1. What a list says at a level is the quadratic in force there, `piece`. Assumes nothing.
+-- A cost function in the workspace: pieces of four words from o on (the last level of the piece; a, and above it the changes; z; c), their last levels rising,
+-- the last one L − 1. What a list says at a level is the quadratic in force there, `piece`. Assumes nothing.
 use mathlib.Core.Path.{_≡_}
 use mathlib.Core.Logic.{_⊎_}
 use mathlib.Core.Bool.{Bool, true, false, cond}
 use mathlib.Core.List.{List}
-use Prim.Native.Nat.{ℕ, zero, suc, _+_, _*_, _-_, _≤_, _<_}
+use Prim.Native.Nat.{ℕ, zero, suc, _+_, _*_, _-_, _/_, _%_, _≤_, _<_}
 use lib.Dec.{leb, eqb}
 use lib.ListN.{length, getD, drop}
 use lib.Seq.{paste}
-use Rattle.quadratic.specs.declared.Quad.{Quad}
 use Rattle.quadratic.specs.Fine.{pickN}
-use Rattle.quadratic.specs.Quad.{Sized, pick, flat, none, moved, mirrored, better}
+use Rattle.quadratic.specs.Quad.{Quad, Sized, pick, flat, absent, none, moved, mirrored, better}
+use Rattle.curve.specs.declared.Two.{Two}
 
 -- the last level of the kth piece of the list at o, and its first
 abbrev pub endOf : List ℕ → ℕ → ℕ → ℕ
@@ -21,7 +21,7 @@ startOf ws o zero = 0
 startOf ws o (suc k) = endOf ws o k + 1
 
 abbrev pub quadAt : List ℕ → ℕ → Quad
-quadAt ws i = record { a = getD ws (i + 1) 0; z = getD ws (i + 2) 0; c = getD ws (i + 3) 0 }
+quadAt ws i = record { a = getD ws (i + 1) 0 % 4294967296; z = getD ws (i + 2) 0; c = getD ws (i + 3) 0; k = getD ws (i + 1) 0 / 4294967296 }
 
 -- where the piece in force at level j begins, among the n pieces from o on
 unfoldable pub seek : ℕ → List ℕ → ℕ → ℕ → ℕ
@@ -109,14 +109,14 @@ Yields v p q = p .c ≡ none → better v p q ≡ q
 
 -- what becomes of F
 abbrev pub shiftOf : ℕ → (ℕ → Quad) → ℕ → Quad
-shiftOf g F j = pick (leb g j) (moved g (F (j - g))) (flat none)
+shiftOf g F j = pick (leb g j) (moved g (F (j - g))) absent
 
 abbrev pub mirrorOf : ℕ → ℕ → (ℕ → Quad) → ℕ → Quad
 mirrorOf s L F j = mirrored s (F (L - 1 - j))
 
--- c at every level but one, where it is d
-abbrev pub constantBut : ℕ → ℕ → ℕ → ℕ → Quad
-constantBut c at d j = flat (pickN (eqb j at) d c)
+-- the least at every level but the one that has it, where it is the other of two
+abbrev pub constantBut : Two → ℕ → Quad
+constantBut two j = pick (eqb j (two .level)) (flat (two .second) (two .secondchanges)) (flat (two .value) (two .changes))
 
 -- it may be mirrored
 pub record Turnable (s : ℕ) (q : Quad) : Type 0 where

@@ -1,8 +1,8 @@
 // Cost functions of the level as lists of pieces in a lent workspace.
 //
 // A list over L levels starts at a word of the workspace. A piece is four words: the index of its last level, then a, z and c of the
-// quadratic in force up to there. Last levels rise, and the piece that ends at L - 1 is the last: no header, at most L pieces. "None" is
-// the constant 2^60. Equal neighbours are joined where they can arise (`append`); searches would be many times slower without.
+// quadratic in force up to there; its number of changes stands above a, in the same word. Last levels rise, and the piece that ends at L - 1 is the last: no
+// header, at most L pieces. "None" is the constant 2^60. Equal neighbours are joined where they can arise (`append`); searches would be many times slower without.
 //
 // Convention: `f` and `g` are lists that are read, `dst` is where a list is written, `levels` is L and `base` the place of level 0. A list
 // that is written has the 4 L words from dst on, and no other word changes (`Kept`). A list that is read shares no word with them
@@ -10,46 +10,46 @@
 //
 // An inner crate: overlap and ranges are `requires` of its functions. specs/Curve.antt has the laws that give them (`curve-reads`,
 // `curve-sized`, ..) and say what each result costs at each level (`curve-least`, `curve-shift`, ..).
-use quadratic::Quad;
+use quadratic::Packed;
 ghost use mathlib.Core.Path.{_≡_};
 ghost use mathlib.Core.Bool.{true, false};
 ghost use mathlib.Core.Logic.{_⊎_};
 ghost use Prim.Native.Nat.{ℕ, _+_, _*_, _-_, _≤_, _<_};
 ghost use lib.ListN.{length, getD};
-ghost use Rattle.quadratic.specs.Quad.{Small, Sized, Fine, raised, pushed, moved, mirrored, better, value, flat, none, up, down, Under, Over, Stays};
-ghost use Rattle.curve.specs.Lows.{LeastIn, TwoLeast, TwoLowered, LessAt, Drops, Prefixed, Lowered, prefixOf, costs, lowest};
+ghost use Rattle.quadratic.specs.Quad.{quad, Small, Sized, Fine, raised, pushed, moved, mirrored, better, value, flat, none, up, down, Under, Over, Stays};
+ghost use Rattle.curve.specs.Lows.{few, rankOf, LeastIn, TwoLeast, TwoLowered, LessAt, Drops, Prefixed, Lowered, prefixOf, costs, lowest};
 ghost use Rattle.curve.specs.Pieces.{Yields, noneOnly, quadAt, Kept, Built, Is, Formed, piece, Stored, Appended, Emits, Made, Apart, Held, Lent, Copyable, Copied, shiftOf, mirrorOf, constantBut, Turnable};
 
 // The piece at a place, without its end.
-fn load(ws: &[u64], at: usize) -> Quad
+fn load(ws: &[u64], at: usize) -> Packed
     requires { ⌜ at + 4 ≤ length (now ws) ⌝ }
-    ensures { λ r. ⌜ r ≡ quadAt (now (ws .entry)) at ⌝ }
+    ensures { λ r. ⌜ quad r ≡ quadAt (now (ws .entry)) at ⌝ }
 {
-    Quad {
-        a: ws[at + 1],
+    Packed {
+        w: ws[at + 1],
         z: ws[at + 2],
         c: ws[at + 3],
     }
 }
 
 // A piece put at a place, with its end.
-fn store(ws: &mut [u64], at: usize, end: u64, q: Quad)
+fn store(ws: &mut [u64], at: usize, end: u64, q: Packed)
     requires { ⌜ at + 4 ≤ length (now ws) ⌝ }
-    ensures { λ r. ⌜ Stored (now (ws .entry)) (now (ws .exit)) at end q ⌝ }
+    ensures { λ r. ⌜ Stored (now (ws .entry)) (now (ws .exit)) at end (quad q) ⌝ }
 {
     ws[at] = end;
-    ws[at + 1] = q.a;
+    ws[at + 1] = q.w;
     ws[at + 2] = q.z;
     ws[at + 3] = q.c;
 }
 
-// Whether two quadratics are the same. Where they differ c nearly always does: with c first the other two tests are hardly reached, and
+// Whether two quadratics are the same. Where they differ c nearly always does: with c first the other tests are hardly reached, and
 // the processor predicts the one that is.
-fn same(p: Quad, q: Quad) -> bool
-    ensures { λ r. ⌜ (r ≡ true → p ≡ q) ⌝ }
+fn same(p: Packed, q: Packed) -> bool
+    ensures { λ r. ⌜ (r ≡ true → quad p ≡ quad q) ⌝ }
 {
     if p.c == q.c {
-        if p.a == q.a {
+        if p.w == q.w {
             if p.z == q.z {
                 return true;
             }
@@ -59,9 +59,9 @@ fn same(p: Quad, q: Quad) -> bool
 }
 
 // One piece more after the n at dst, or the last one longer.
-fn append(ws: &mut [u64], dst: usize, n: usize, end: u64, q: Quad) -> usize
+fn append(ws: &mut [u64], dst: usize, n: usize, end: u64, q: Packed) -> usize
     requires { ⌜ dst + 4 * (n + 1) ≤ length (now ws) ⌝ }
-    ensures { λ r. ⌜ Appended (now (ws .entry)) (now (ws .exit)) dst n end q r ⌝ }
+    ensures { λ r. ⌜ Appended (now (ws .entry)) (now (ws .exit)) dst n end (quad q) r ⌝ }
 {
     if 0 < n {
         let back = dst + 4 * (n - 1);
@@ -78,21 +78,21 @@ fn append(ws: &mut [u64], dst: usize, n: usize, end: u64, q: Quad) -> usize
 
 // How far from a to y p stays at most q, which it is at a. Many stretches have one level: no crossing is looked for there. The copies
 // keep the callee's two quadratics out of memory where it is not called.
-fn reach(p: Quad, q: Quad, a: u64, y: u64, base: u64) -> u64
-    requires { ⌜ (Small p × Small q) × ((a ≤ y) × (base + y < 262144)) ⌝ }
-    requires { ⌜ Under p q (base + a) ⌝ }
-    ensures { λ r. ⌜ Stays p q (base + a) (base + y) (base + r) ⌝ }
+fn reach(p: Packed, q: Packed, a: u64, y: u64, base: u64) -> u64
+    requires { ⌜ (Small (quad p) × Small (quad q)) × ((a ≤ y) × (base + y < 262144)) ⌝ }
+    requires { ⌜ Under (quad p) (quad q) (base + a) ⌝ }
+    ensures { λ r. ⌜ Stays (quad p) (quad q) (base + a) (base + y) (base + r) ⌝ }
 {
     if a == y {
         return y;
     }
-    let w = Quad {
-        a: p.a,
+    let w = Packed {
+        w: p.w,
         z: p.z,
         c: p.c,
     };
-    let l = Quad {
-        a: q.a,
+    let l = Packed {
+        w: q.w,
         z: q.z,
         c: q.c,
     };
@@ -101,23 +101,30 @@ fn reach(p: Quad, q: Quad, a: u64, y: u64, base: u64) -> u64
 
 // Levels up to an end at which one quadratic is the better one.
 struct Stretch {
-    winner: Quad,
+    winner: Packed,
     end: u64,
 }
 
-// The better of p and q at the level a, p where they are equal, and how far to y it stays so.
-fn next_stretch(p: Quad, q: Quad, a: u64, y: u64, base: u64) -> Stretch
-    requires { ⌜ (Sized p × Sized q) × ((a ≤ y) × (base + y < 262144)) ⌝ }
-    ensures { λ r. ⌜ ((a ≤ r .end) × (r .end ≤ y)) × ((j : ℕ) → a ≤ j → j ≤ r .end → r .winner ≡ better (base + j) p q) ⌝ }
+// The better of p and q at the level a, p where they are equal, and how far to y it stays so. Of equal costs the one with fewer changes is the better: the
+// other has to be cheaper by one.
+fn next_stretch(p: Packed, q: Packed, a: u64, y: u64, base: u64) -> Stretch
+    requires { ⌜ (Sized (quad p) × Sized (quad q)) × ((a ≤ y) × (base + y < 262144)) ⌝ }
+    ensures { λ r. ⌜ ((a ≤ r .end) × (r .end ≤ y)) × ((j : ℕ) → a ≤ j → j ≤ r .end → quad (r .winner) ≡ better (base + j) (quad p) (quad q)) ⌝ }
 {
-    if quadratic::under(p, q, base + a) {
-        let s = reach(p, q, a, y, base);
+    let more = quadratic::more_changes(p.w / quadratic::CHANGE, q.w / quadratic::CHANGE);
+    let p1 = Packed {
+        w: p.w,
+        z: p.z,
+        c: p.c + more,
+    };
+    if quadratic::under(p1, q, base + a) {
+        let s = reach(p1, q, a, y, base);
         return Stretch { winner: p, end: s };
     }
-    let q1 = Quad {
-        a: q.a,
+    let q1 = Packed {
+        w: q.w,
         z: q.z,
-        c: q.c + 1,
+        c: q.c + 1 - more,
     };
     let t = reach(q1, p, a, y, base);
     Stretch { winner: q, end: t }
@@ -129,15 +136,15 @@ fn least_on(
     ws: &mut [u64],
     dst: usize,
     n: usize,
-    p: Quad,
-    q: Quad,
+    p: Packed,
+    q: Packed,
     x: u64,
     y: u64,
     base: u64,
 ) -> usize
-    requires { ⌜ (Sized p × Sized q) × (base + y < 262144) ⌝ }
+    requires { ⌜ (Sized (quad p) × Sized (quad q)) × (base + y < 262144) ⌝ }
     requires { ⌜ ((n ≤ x) × (x ≤ y)) × (dst + 4 * (y + 1) ≤ length (now ws)) ⌝ }
-    ensures { λ r. ⌜ Emits (λ (j : ℕ). better (base + j) p q) (now (ws .entry)) (now (ws .exit)) dst n x (y + 1) r ⌝ }
+    ensures { λ r. ⌜ Emits (λ (j : ℕ). better (base + j) (quad p) (quad q)) (now (ws .entry)) (now (ws .exit)) dst n x (y + 1) r ⌝ }
 {
     let mut a = x;
     let mut k = n;
@@ -154,16 +161,16 @@ fn least_part(
     ws: &mut [u64],
     dst: usize,
     n: usize,
-    p: Quad,
-    q: Quad,
+    p: Packed,
+    q: Packed,
     x: u64,
     y: u64,
     base: u64,
 ) -> usize
-    requires { ⌜ (Sized p × Sized q) × (base + y < 262144) ⌝ }
+    requires { ⌜ (Sized (quad p) × Sized (quad q)) × (base + y < 262144) ⌝ }
     requires { ⌜ ((n ≤ x) × (x ≤ y)) × (dst + 4 * (y + 1) ≤ length (now ws)) ⌝ }
-    requires { ⌜ ((j : ℕ) → x ≤ j → j ≤ y → Yields (base + j) p q) ⌝ }
-    ensures { λ r. ⌜ Emits (λ (j : ℕ). better (base + j) p q) (now (ws .entry)) (now (ws .exit)) dst n x (y + 1) r ⌝ }
+    requires { ⌜ ((j : ℕ) → x ≤ j → j ≤ y → Yields (base + j) (quad p) (quad q)) ⌝ }
+    ensures { λ r. ⌜ Emits (λ (j : ℕ). better (base + j) (quad p) (quad q)) (now (ws .entry)) (now (ws .exit)) dst n x (y + 1) r ⌝ }
 {
     if p.c == quadratic::NONE {
         return append(ws, dst, n, y, q);
@@ -186,22 +193,23 @@ fn next(i: usize, e: u64, y: u64) -> usize
     if e == y { i + 1 } else { i }
 }
 
-// dst: at each level the less of f's and of g's with pen added.
+// dst: at each level the less of f's and of g's with pen and ch changes added.
 pub fn least_of_two(
     ws: &mut [u64],
     f: usize,
     g: usize,
     pen: u64,
+    ch: u64,
     dst: usize,
     levels: u64,
     base: u64,
 )
     requires { ⌜ Lent (now ws) f dst (4 * levels) levels × (Lent (now ws) g dst (4 * levels) levels × (dst + 4 * levels ≤ length (now ws))) ⌝ }
-    requires { ⌜ (pen ≤ 1152921504606846976) × (base + levels ≤ 262144) ⌝ }
+    requires { ⌜ ((pen ≤ 1152921504606846976) × (ch ≤ 1048576)) × (base + levels ≤ 262144) ⌝ }
     requires { ⌜ ((j : ℕ) → j < levels → Sized (piece (now ws) f levels j)) ⌝ }
-    requires { ⌜ ((j : ℕ) → j < levels → Sized (raised pen (piece (now ws) g levels j))) ⌝ }
-    requires { ⌜ ((j : ℕ) → j < levels → Yields (base + j) (piece (now ws) f levels j) (raised pen (piece (now ws) g levels j))) ⌝ }
-    ensures { λ r. ⌜ Made (λ (j : ℕ). better (base + j) (piece (now (ws .entry)) f levels j) (raised pen (piece (now (ws .entry)) g levels j))) (now (ws .entry)) (now (ws .exit)) dst levels ⌝ }
+    requires { ⌜ ((j : ℕ) → j < levels → Sized (raised pen ch (piece (now ws) g levels j))) ⌝ }
+    requires { ⌜ ((j : ℕ) → j < levels → Yields (base + j) (piece (now ws) f levels j) (raised pen ch (piece (now ws) g levels j))) ⌝ }
+    ensures { λ r. ⌜ Made (λ (j : ℕ). better (base + j) (piece (now (ws .entry)) f levels j) (raised pen ch (piece (now (ws .entry)) g levels j))) (now (ws .entry)) (now (ws .exit)) dst levels ⌝ }
 {
     let mut i: usize = 0;
     let mut k: usize = 0;
@@ -214,7 +222,7 @@ pub fn least_of_two(
         let h = ws[to];
         let p = load(ws, at);
         let l = load(ws, to);
-        let q = quadratic::raise(l, pen);
+        let q = quadratic::raise(l, pen, ch);
         let y = lesser(e, h);
         n = least_part(ws, dst, n, p, q, x, y, base);
         i = next(i, e, y);
@@ -243,13 +251,17 @@ pub fn add_loss(ws: &mut [u64], f: usize, u: u64, w: u64, dst: usize, levels: u6
     }
 }
 
-// c at the levels from x up to y, y not among them.
-fn constant_to(ws: &mut [u64], dst: usize, n: usize, x: u64, y: u64, c: u64) -> usize
-    requires { ⌜ ((n ≤ x) × (x ≤ y)) × (dst + 4 * y ≤ length (now ws)) ⌝ }
-    ensures { λ r. ⌜ Emits (λ (j : ℕ). flat c) (now (ws .entry)) (now (ws .exit)) dst n x y r ⌝ }
+// c with k changes at the levels from x up to y, y not among them.
+fn constant_to(ws: &mut [u64], dst: usize, n: usize, x: u64, y: u64, c: u64, k: u64) -> usize
+    requires { ⌜ ((n ≤ x) × (x ≤ y)) × ((dst + 4 * y ≤ length (now ws)) × (k ≤ few)) ⌝ }
+    ensures { λ r. ⌜ Emits (λ (j : ℕ). flat c k) (now (ws .entry)) (now (ws .exit)) dst n x y r ⌝ }
 {
     if x < y {
-        let q = Quad { a: 0, z: 0, c };
+        let q = Packed {
+            w: quadratic::CHANGE * k,
+            z: 0,
+            c,
+        };
         append(ws, dst, n, y - 1, q)
     } else {
         n
@@ -264,10 +276,10 @@ pub fn shift(ws: &mut [u64], f: usize, gap: u64, dst: usize, levels: u64)
     ensures { λ r. ⌜ Made (shiftOf gap (piece (now (ws .entry)) f levels)) (now (ws .entry)) (now (ws .exit)) dst levels ⌝ }
 {
     if levels <= gap {
-        constant_to(ws, dst, 0, 0, levels, quadratic::NONE);
+        constant_to(ws, dst, 0, 0, levels, quadratic::NONE, 0);
         return;
     }
-    let mut n = constant_to(ws, dst, 0, 0, gap, quadratic::NONE);
+    let mut n = constant_to(ws, dst, 0, 0, gap, quadratic::NONE, 0);
     let mut i: usize = 0;
     let mut x: u64 = 0;
     while x + gap < levels {
@@ -319,26 +331,34 @@ pub fn mirror(ws: &mut [u64], f: usize, dst: usize, levels: u64, base: u64)
     }
 }
 
-// A value and a level that has it.
+// A cost and a number of changes. The one that comes first is the less of two.
+pub struct Rank {
+    pub value: u64,
+    pub changes: u64,
+}
+
+// A cost with its changes, and a level that has it.
 pub struct Low {
     pub value: u64,
+    pub changes: u64,
     pub level: u64,
 }
 
-// How many pieces there are, and the least value so far.
+// How many pieces there are, and the least so far: its cost and its changes.
 struct Run {
     pub n: usize,
     pub best: u64,
+    pub changes: u64,
 }
 
-// The first level of [a, v] at which p is less than best. It is so at v, and p falls up to there.
-fn first_below(p: Quad, best: u64, a: u64, v: u64, base: u64) -> u64
-    requires { ⌜ (Small p × (best ≤ 1152921504606846977)) × ((a ≤ v) × (base + v < 262144)) ⌝ }
-    requires { ⌜ Over (flat best) p (base + v) ⌝ }
-    ensures { λ r. ⌜ Drops p best a v base r ⌝ }
+// The first level of [a, v] at which p costs less than best. It is so at v, and p falls up to there.
+fn first_below(p: Packed, best: u64, a: u64, v: u64, base: u64) -> u64
+    requires { ⌜ (Small (quad p) × (best ≤ 1152921504606846978)) × ((a ≤ v) × (base + v < 262144)) ⌝ }
+    requires { ⌜ Over (flat best 0) (quad p) (base + v) ⌝ }
+    ensures { λ r. ⌜ Drops (quad p) best a v base r ⌝ }
 {
-    let w = Quad {
-        a: 0,
+    let w = Packed {
+        w: 0,
         z: 0,
         c: best,
     };
@@ -350,26 +370,38 @@ fn first_below(p: Quad, best: u64, a: u64, v: u64, base: u64) -> u64
     }
 }
 
-// The least so far at the levels from a to e, at which p is in force.
-fn running_min_on(ws: &mut [u64], dst: usize, run: Run, p: Quad, a: u64, e: u64, base: u64) -> Run
-    requires { ⌜ Small p × ((v : ℕ) → base + a ≤ v → v ≤ base + e → down p v ≤ up p v) ⌝ }
-    requires { ⌜ ((run .n ≤ a) × (a ≤ e)) × ((base + e < 262144) × (run .best ≤ 1152921504606846977)) ⌝ }
+// The least so far at the levels from a to e, at which p is in force. It is p's where p costs less than the limit: the best before, with one more where p
+// has fewer changes.
+fn running_min_on(ws: &mut [u64], dst: usize, run: Run, p: Packed, a: u64, e: u64, base: u64) -> Run
+    requires { ⌜ Small (quad p) × ((v : ℕ) → base + a ≤ v → v ≤ base + e → down (quad p) v ≤ up (quad p) v) ⌝ }
+    requires { ⌜ ((run .n ≤ a) × (a ≤ e)) × ((base + e < 262144) × ((run .best ≤ 1152921504606846977) × (run .changes ≤ few))) ⌝ }
     requires { ⌜ dst + 4 * (e + 1) ≤ length (now ws) ⌝ }
-    ensures { λ r. ⌜ Prefixed (now (ws .entry)) (now (ws .exit)) dst base a e p run r ⌝ }
+    ensures { λ r. ⌜ Prefixed (now (ws .entry)) (now (ws .exit)) dst base a e (quad p) run r ⌝ }
 {
     let n = run.n;
     let best = run.best;
+    let changes = run.changes;
+    let k = p.w / quadratic::CHANGE;
     let v = quadratic::lowest_min(p, base + a, base + e) - base;
     let w = quadratic::eval(p, base + v);
-    if best <= w {
-        let all = constant_to(ws, dst, n, a, e + 1, best);
-        return Run { n: all, best };
+    let limit = best + quadratic::more_changes(changes, k);
+    if limit <= w {
+        let all = constant_to(ws, dst, n, a, e + 1, best, changes);
+        return Run {
+            n: all,
+            best,
+            changes,
+        };
     }
-    let s = first_below(p, best, a, v, base);
-    let before = constant_to(ws, dst, n, a, s, best);
+    let s = first_below(p, limit, a, v, base);
+    let before = constant_to(ws, dst, n, a, s, best, changes);
     let fallen = append(ws, dst, before, v, p);
-    let after = constant_to(ws, dst, fallen, v + 1, e + 1, w);
-    Run { n: after, best: w }
+    let after = constant_to(ws, dst, fallen, v + 1, e + 1, w, k);
+    Run {
+        n: after,
+        best: w,
+        changes: k,
+    }
 }
 
 // dst: at each level the least of f's at that level and at those below.
@@ -382,6 +414,7 @@ pub fn running_min(ws: &mut [u64], f: usize, dst: usize, levels: u64, base: u64)
     let mut run = Run {
         n: 0,
         best: quadratic::NONE + 1,
+        changes: 0,
     };
     let mut i: usize = 0;
     let mut x: u64 = 0;
@@ -403,19 +436,21 @@ fn greater(e: u64, h: u64) -> u64
 }
 
 // The less of best and of the least of p on [a, b], which may be empty; best where they are equal.
-fn lower(best: Low, p: Quad, a: u64, b: u64, base: u64) -> Low
-    requires { ⌜ Small p × ((v : ℕ) → base + a ≤ v → v ≤ base + b → down p v ≤ up p v) ⌝ }
-    requires { ⌜ base + b < 262144 ⌝ }
-    ensures { λ r. ⌜ Lowered best p a b base r ⌝ }
+fn lower(best: Low, p: Packed, a: u64, b: u64, base: u64) -> Low
+    requires { ⌜ Small (quad p) × ((v : ℕ) → base + a ≤ v → v ≤ base + b → down (quad p) v ≤ up (quad p) v) ⌝ }
+    requires { ⌜ (base + b < 262144) × (best .changes ≤ few) ⌝ }
+    ensures { λ r. ⌜ Lowered best (quad p) a b base r ⌝ }
 {
     if b < a {
         return best;
     }
     let v = quadratic::lowest_min(p, base + a, base + b);
     let w = quadratic::eval(p, v);
-    if w < best.value {
+    let changes = p.w / quadratic::CHANGE;
+    if quadratic::comes_first(w, changes, best.value, best.changes) {
         Low {
             value: w,
+            changes,
             level: v - base,
         }
     } else {
@@ -432,6 +467,7 @@ pub fn least_in(ws: &[u64], f: usize, from: u64, to: u64, levels: u64, base: u64
 {
     let mut best = Low {
         value: quadratic::NONE + 1,
+        changes: 0,
         level: 0,
     };
     let mut i: usize = 0;
@@ -449,18 +485,32 @@ pub fn least_in(ws: &[u64], f: usize, from: u64, to: u64, levels: u64, base: u64
     best
 }
 
-// The least value, the lowest level that has it, and the least at the other levels.
+// The least, the lowest level that has it, and the least at the other levels; each a cost with its changes.
 pub struct Two {
     pub value: u64,
+    pub changes: u64,
     pub level: u64,
     pub second: u64,
+    pub secondchanges: u64,
+}
+
+// The less of two, the first where they are equal.
+fn lesser_rank(a: Rank, b: Rank) -> Rank
+    requires { ⌜ (a .changes ≤ few) × ((b .changes ≤ few) × (b .value ≤ 4611686018427387904)) ⌝ }
+    ensures { λ r. ⌜ ((rankOf r ≤ rankOf a) × (rankOf r ≤ rankOf b)) × ((r ≡ a) ⊎ (r ≡ b)) ⌝ }
+{
+    if quadratic::comes_first(b.value, b.changes, a.value, a.changes) {
+        b
+    } else {
+        a
+    }
 }
 
 // The less of best and of p at v, where v lies in [x, y]; else best.
-fn lesser_at(best: u64, p: Quad, v: u64, x: u64, y: u64) -> u64
-    requires { ⌜ Small p × ((u : ℕ) → x ≤ u → u ≤ y → down p u ≤ up p u) ⌝ }
-    requires { ⌜ y < 262144 ⌝ }
-    ensures { λ r. ⌜ LessAt best p v x y r ⌝ }
+fn lesser_at(best: Rank, p: Packed, v: u64, x: u64, y: u64) -> Rank
+    requires { ⌜ Small (quad p) × ((u : ℕ) → x ≤ u → u ≤ y → down (quad p) u ≤ up (quad p) u) ⌝ }
+    requires { ⌜ (y < 262144) × (best .changes ≤ few) ⌝ }
+    ensures { λ r. ⌜ LessAt best (quad p) v x y r ⌝ }
 {
     if v < x {
         return best;
@@ -468,32 +518,54 @@ fn lesser_at(best: u64, p: Quad, v: u64, x: u64, y: u64) -> u64
     if y < v {
         return best;
     }
-    lesser(best, quadratic::eval(p, v))
+    let w = quadratic::eval(p, v);
+    let here = Rank {
+        value: w,
+        changes: p.w / quadratic::CHANGE,
+    };
+    lesser_rank(best, here)
 }
 
 // The two least of the levels up to e: best is of those below a, and from a on p is in force. p falls to its least and does not fall after it, so
 // that its next least value stands beside its least.
-fn lower_two(best: Two, p: Quad, a: u64, e: u64, base: u64) -> Two
-    requires { ⌜ Small p × ((v : ℕ) → base + a ≤ v → v ≤ base + e → down p v ≤ up p v) ⌝ }
-    requires { ⌜ (a ≤ e) × ((0 < base) × (base + e < 262144)) ⌝ }
-    ensures { λ r. ⌜ TwoLowered best p a e base r ⌝ }
+fn lower_two(best: Two, p: Packed, a: u64, e: u64, base: u64) -> Two
+    requires { ⌜ Small (quad p) × ((v : ℕ) → base + a ≤ v → v ≤ base + e → down (quad p) v ≤ up (quad p) v) ⌝ }
+    requires { ⌜ (a ≤ e) × ((0 < base) × ((base + e < 262144) × ((best .changes ≤ few) × (best .secondchanges ≤ few)))) ⌝ }
+    ensures { λ r. ⌜ TwoLowered best (quad p) a e base r ⌝ }
 {
     let v = quadratic::lowest_min(p, base + a, base + e);
     let w = quadratic::eval(p, v);
-    if best.value <= w {
-        let second = lesser(best.second, w);
+    let k = p.w / quadratic::CHANGE;
+    let least = Rank {
+        value: best.value,
+        changes: best.changes,
+    };
+    if quadratic::comes_first(w, k, best.value, best.changes) {
+        let before = lesser_at(least, p, v - 1, base + a, base + e);
+        let second = lesser_at(before, p, v + 1, base + a, base + e);
         return Two {
-            value: best.value,
-            level: best.level,
-            second,
+            value: w,
+            changes: k,
+            level: v - base,
+            second: second.value,
+            secondchanges: second.changes,
         };
     }
-    let before = lesser_at(best.value, p, v - 1, base + a, base + e);
-    let second = lesser_at(before, p, v + 1, base + a, base + e);
-    Two {
+    let next = Rank {
+        value: best.second,
+        changes: best.secondchanges,
+    };
+    let here = Rank {
         value: w,
-        level: v - base,
-        second,
+        changes: k,
+    };
+    let second = lesser_rank(next, here);
+    Two {
+        value: best.value,
+        changes: best.changes,
+        level: best.level,
+        second: second.value,
+        secondchanges: second.changes,
     }
 }
 
@@ -505,8 +577,10 @@ pub fn two_least(ws: &[u64], f: usize, levels: u64, base: u64) -> Two
 {
     let mut best = Two {
         value: quadratic::NONE,
+        changes: 0,
         level: 0,
         second: quadratic::NONE,
+        secondchanges: 0,
     };
     let mut i: usize = 0;
     let mut x: u64 = 0;
@@ -521,22 +595,23 @@ pub fn two_least(ws: &[u64], f: usize, levels: u64, base: u64) -> Two
     best
 }
 
-// dst: c at every level.
-pub fn constant(ws: &mut [u64], dst: usize, levels: u64, c: u64)
-    requires { ⌜ dst + 4 * levels ≤ length (now ws) ⌝ }
-    ensures { λ r. ⌜ Made (λ (j : ℕ). flat c) (now (ws .entry)) (now (ws .exit)) dst levels ⌝ }
+// dst: c with k changes at every level.
+pub fn constant(ws: &mut [u64], dst: usize, levels: u64, c: u64, k: u64)
+    requires { ⌜ (dst + 4 * levels ≤ length (now ws)) × (k ≤ few) ⌝ }
+    ensures { λ r. ⌜ Made (λ (j : ℕ). flat c k) (now (ws .entry)) (now (ws .exit)) dst levels ⌝ }
 {
-    constant_to(ws, dst, 0, 0, levels, c);
+    constant_to(ws, dst, 0, 0, levels, c, k);
 }
 
-// dst: c at every level but one, where it is d.
-pub fn constant_but(ws: &mut [u64], dst: usize, levels: u64, c: u64, at: u64, d: u64)
-    requires { ⌜ (dst + 4 * levels ≤ length (now ws)) × (at < levels) ⌝ }
-    ensures { λ r. ⌜ Made (constantBut c at d) (now (ws .entry)) (now (ws .exit)) dst levels ⌝ }
+// dst: the least of two at every level but the one that has it, where it is the other.
+pub fn constant_but(ws: &mut [u64], dst: usize, levels: u64, two: Two)
+    requires { ⌜ ((dst + 4 * levels ≤ length (now ws)) × (two .level < levels)) × ((two .changes ≤ few) × (two .secondchanges ≤ few)) ⌝ }
+    ensures { λ r. ⌜ Made (constantBut two) (now (ws .entry)) (now (ws .exit)) dst levels ⌝ }
 {
-    let below = constant_to(ws, dst, 0, 0, at, c);
-    let here = constant_to(ws, dst, below, at, at + 1, d);
-    constant_to(ws, dst, here, at + 1, levels, c);
+    let at = two.level;
+    let below = constant_to(ws, dst, 0, 0, at, two.value, two.changes);
+    let here = constant_to(ws, dst, below, at, at + 1, two.second, two.secondchanges);
+    constant_to(ws, dst, here, at + 1, levels, two.value, two.changes);
 }
 
 // The words of the list at f put at dst: four for each of the pieces, whose number is returned.
@@ -553,19 +628,23 @@ pub fn copy(ws: &mut [u64], f: usize, dst: usize, levels: u64) -> usize
     n
 }
 
-// What f costs at level j.
-pub fn value_at(ws: &[u64], f: usize, j: u64, levels: u64, base: u64) -> u64
+// What f costs at level j, and with how many changes.
+pub fn value_at(ws: &[u64], f: usize, j: u64, levels: u64, base: u64) -> Rank
     requires { ⌜ Held (now ws) f levels × (base + levels ≤ 262144) ⌝ }
     requires { ⌜ j < levels ⌝ }
     requires { ⌜ ((i : ℕ) → i < levels → Fine 1048576 18014398509481984 (piece (now ws) f levels i) (base + i)) ⌝ }
-    ensures { λ r. ⌜ r ≡ costs base (piece (now (ws .entry)) f levels) j ⌝ }
+    ensures { λ r. ⌜ (rankOf r ≡ costs base (piece (now (ws .entry)) f levels) j) × (r .changes ≤ few) ⌝ }
 {
     let mut i: usize = 0;
     while ws[f + 4 * i] < j {
         i += 1;
     }
     let p = load(ws, f + 4 * i);
-    quadratic::eval(p, base + j)
+    let value = quadratic::eval(p, base + j);
+    Rank {
+        value,
+        changes: p.w / quadratic::CHANGE,
+    }
 }
 
 // Whether f is one piece, none. Since equal neighbours are joined, a list that is none everywhere is; a wrong no would cost time only.

@@ -7,17 +7,17 @@ use Prim.Native.Nat.{ℕ, _+_, _*_, _-_, _%_, _≤_, _<_}
 use native.Mathlib.Nat.{mul-le-mul}
 use native.Mathlib.Omega.{arith}
 use lib.ListN.{length}
-use Rattle.quadratic.specs.declared.Quad.{Quad}
-use Rattle.quadratic.specs.Quad.{Fine}
+use Rattle.quadratic.specs.Quad.{Quad, Fine, none, absent}
+use Rattle.quadratic.specs.Fine.{quad-eq}
 use Rattle.curve.specs.Pieces.{piece, Built, Formed, Held, Same, Apart, Copyable}
 use Rattle.curve.specs.Lists.{closed, count-le, count-most}
 use Rattle.curve.specs.Lows.{costs}
 use Rattle.curve.specs.Curve.{Curve, Limits, curve-wider, curve-copyable}
-use Rattle.edges.specs.Edge.{Sound, Hand, Into, Ready}
+use Rattle.edges.specs.Edge.{most, Sound, Hand, Into, Ready}
 
--- a list whose values are none or below 2^53
+-- a list whose costs are none or below 2^53, with room for 3 changes more
 abbrev pub Listed : List ℕ → ℕ → ℕ → ℕ → Type 0
-Listed ws o L base = Curve 1048576 9007199254740992 base L ws o (costs base (piece ws o L))
+Listed ws o L base = Curve 1048573 9007199254740992 base L ws o (costs base (piece ws o L))
 
 pub record Valid (ws : List ℕ) (o L base : ℕ) : Type 0 where
   pub some : 0 < L
@@ -38,7 +38,7 @@ pub record Separate (acc next work f L : ℕ) : Type 0 where
 
 -- the first n pieces, looked through
 abbrev pub Scanned : List ℕ → ℕ → ℕ → ℕ → ℕ → Type 0
-Scanned ws o base n x = Built (λ (j : ℕ) (q : Quad). Fine 1048576 9007199254740992 q (base + j)) ws o n x
+Scanned ws o base n x = Built (λ (j : ℕ) (q : Quad). Fine 1048573 9007199254740992 q (base + j)) ws o n x
 
 pub scanned-all : {ws : List ℕ} {o L base n : ℕ} → o + 4 * L ≤ length ws → Scanned ws o base n L → Listed ws o L base
 scanned-all {ws} {o} {L} {base} {n} h b = record {
@@ -54,24 +54,26 @@ pub never : {A : Type 0} → _≡_ {A = Bool} false true → A
 never e = let z : _≡_ {A = ℕ} 0 1 = cc in absurd (omega arith)
 
 -- the products of numbers in these ranges
-pub products : (a z c v : ℕ) → (a ≤ 1048576) × ((z ≤ 549755813888) × (c ≤ 1152921504606846976)) → v < 262144 → (a * v ≤ 1048576 * 262143) × ((v * v ≤ 262143 * 262143) × ((a * (v * v) ≤ 1048576 * (262143 * 262143)) × (z * v ≤ 549755813888 * 262143)))
-products a z c v h g =
+pub products : (a z c v k : ℕ) → (a + k ≤ 1048573) × ((z ≤ 549755813888) × (c ≤ 1152921504606846976)) → v < 262144 → (a * v ≤ 1048576 * 262143) × ((v * v ≤ 262143 * 262143) × ((a * (v * v) ≤ 1048576 * (262143 * 262143)) × (z * v ≤ 549755813888 * 262143)))
+products a z c v k h g =
     let w : v ≤ 262143 = omega arith in
+    let u : a ≤ 1048576 = omega arith in
     let vv = mul-le-mul w w in
-    (mul-le-mul (h .0) w, (vv, (mul-le-mul (h .0) vv, mul-le-mul (h .1 .0) w)))
+    (mul-le-mul u w, (vv, (mul-le-mul u vv, mul-le-mul (h .1 .0) w)))
+
+-- a constant without changes that costs as much as none is none
+pub absent-is : (q : Quad) (v : ℕ) → q .a ≡ 0 → q .z ≤ q .a * v + 65535 * q .a → q .c ≡ none → q .k ≡ 0 → q ≡ absent
+absent-is q v e h c k = let u : q .z ≤ 0 * v + 65535 * 0 = rw e at h in quad-eq q absent e (omega arith) c k
 
 pub passed : (b : Bool) → not b ≡ false → b ≡ true
 passed true e = refl
 passed false e = never (sym e)
 
 -- ---- what the operations ask for
-pub within : {ws : List ℕ} {o L base : ℕ} → Valid ws o L base → Limits 1048576 9007199254740992 base L
+pub within : {ws : List ℕ} {o L base : ℕ} → Valid ws o L base → Limits 1048573 9007199254740992 base L
 within v = record { readings = omega arith; cost = omega arith; low = v .limits .low; high = v .limits .high }
 
-pub with-penalty : {ws : List ℕ} {o L base : ℕ} → Valid ws o L base → (pen : ℕ) → pen ≤ 1048576 → Limits 1048576 (9007199254740992 + pen) base L
-with-penalty v pen h = record { readings = omega arith; cost = omega arith; low = v .limits .low; high = v .limits .high }
-
-pub sound : {ws : List ℕ} {o L base : ℕ} → Valid ws o L base → Sound 18014398509481984 base L ws o
+pub sound : {ws : List ℕ} {o L base : ℕ} → Valid ws o L base → Sound most 18014398509481984 base L ws o
 sound v = curve-wider 1048576 18014398509481984 (omega arith) (omega arith) (v .list)
 
 pub copyable : {ws : List ℕ} {o L base : ℕ} → Valid ws o L base → (dst : ℕ) → Apart o dst (4 * L) → dst + 4 * L ≤ length ws → Copyable ws o dst L
@@ -92,7 +94,7 @@ ready {pen = pen} s a v n w p = record {
   some = v .some;
   limits = v .limits;
   so-far = sound a;
-  from = curve-wider 1048576 (18014398509481984 - pen) (omega arith) (omega arith) (v .list);
+  from = curve-wider 1048575 (18014398509481984 - pen) (omega arith) (omega arith) (v .list);
 }
 
 -- ---- products that do not wrap

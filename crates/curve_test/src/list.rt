@@ -1,18 +1,23 @@
 // Whether a list in the workspace is one that the operations take.
-use quadratic::Quad;
+use quadratic::Packed;
 ghost use mathlib.Core.Path.{_≡_};
 ghost use mathlib.Core.Bool.{true};
 ghost use Prim.Native.Nat.{ℕ, _+_, _*_, _≤_, _<_};
 ghost use lib.ListN.{length};
-ghost use Rattle.quadratic.specs.Quad.{Fine};
+ghost use Rattle.quadratic.specs.Quad.{quad, Fine};
 ghost use Rattle.curve.specs.Pieces.{Apart};
 ghost use Rattle.curve_test.specs.Valid.{Valid, Listed};
 
-// Whether q is within the ranges of those that are kept.
-fn small(q: Quad) -> bool
-    ensures { λ r. ⌜ (r ≡ true → (q .a ≤ 1048576) × ((q .z ≤ 549755813888) × (q .c ≤ 1152921504606846976))) ⌝ }
+// Whether q is within the ranges of those that are kept, and of 3 changes more.
+fn small(q: Packed) -> bool
+    ensures { λ r. ⌜ (r ≡ true → (quad q .a + quad q .k ≤ 1048573) × ((q .z ≤ 549755813888) × (q .c ≤ 1152921504606846976))) ⌝ }
 {
-    if 1048576 < q.a {
+    let a = q.w % quadratic::CHANGE;
+    let k = q.w / quadratic::CHANGE;
+    if 1048573 < k {
+        return false;
+    }
+    if 1048573 - k < a {
         return false;
     }
     if 549755813888 < q.z {
@@ -22,14 +27,15 @@ fn small(q: Quad) -> bool
 }
 
 // Whether q may be in force at v.
-fn fine_at(q: Quad, v: u64) -> bool
+fn fine_at(q: Packed, v: u64) -> bool
     requires { ⌜ v < 262144 ⌝ }
-    ensures { λ r. ⌜ (r ≡ true → Fine 1048576 9007199254740992 q v) ⌝ }
+    ensures { λ r. ⌜ (r ≡ true → Fine 1048573 9007199254740992 (quad q) v) ⌝ }
 {
     if !small(q) {
         return false;
     }
-    let a = q.a;
+    let a = q.w % quadratic::CHANGE;
+    let k = q.w / quadratic::CHANGE;
     let z = q.z;
     let c = q.c;
     if z + 65535 * a < a * v {
@@ -45,16 +51,16 @@ fn fine_at(q: Quad, v: u64) -> bool
     }
     if a == 0 {
         if c == 1152921504606846976 {
-            return true;
+            return k == 0;
         }
     }
     rise < fall + 9007199254740992
 }
 
 // Whether it may be at the levels from x to e.
-fn fine_on(q: Quad, x: u64, e: u64, base: u64) -> bool
+fn fine_on(q: Packed, x: u64, e: u64, base: u64) -> bool
     requires { ⌜ base + e < 262144 ⌝ }
-    ensures { λ r. ⌜ (r ≡ true → (j : ℕ) → x ≤ j → j ≤ e → Fine 1048576 9007199254740992 q (base + j)) ⌝ }
+    ensures { λ r. ⌜ (r ≡ true → (j : ℕ) → x ≤ j → j ≤ e → Fine 1048573 9007199254740992 (quad q) (base + j)) ⌝ }
 {
     let mut j = x;
     while j <= e {
@@ -82,8 +88,8 @@ fn scan(ws: &[u64], o: usize, levels: u64, base: u64) -> bool
         if levels <= e {
             return false;
         }
-        let q = Quad {
-            a: ws[at + 1],
+        let q = Packed {
+            w: ws[at + 1],
             z: ws[at + 2],
             c: ws[at + 3],
         };

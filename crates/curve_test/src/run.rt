@@ -1,5 +1,6 @@
 // The operations on lists in the workspace, once what they ask for is tested.
 use curve::Low;
+use curve::Rank;
 use plan::Kind;
 ghost use mathlib.Core.Path.{_≡_};
 ghost use mathlib.Core.Bool.{true};
@@ -12,7 +13,8 @@ fn constant(ws: &mut [u64], dst: usize, x: u64, levels: u64) -> bool {
     if !crate::list::room(ws, dst, levels) {
         return false;
     }
-    curve::constant(ws, dst, levels, x);
+    let v = crate::direct::constant(x);
+    curve::constant(ws, dst, levels, v.value, v.changes);
     true
 }
 
@@ -49,16 +51,8 @@ fn on_one(ws: &mut [u64], op: u64, f: usize, dst: usize, x: u64, levels: u64, ba
     curve::copy(ws, f, dst, levels) == n
 }
 
-// The least of two lists, with a penalty on the second.
-fn on_two(
-    ws: &mut [u64],
-    f: usize,
-    g: usize,
-    dst: usize,
-    pen: u64,
-    levels: u64,
-    base: u64,
-) -> bool {
+// The least of two lists, with a penalty and changes on the second.
+fn on_two(ws: &mut [u64], f: usize, g: usize, dst: usize, x: u64, levels: u64, base: u64) -> bool {
     if !crate::list::valid(ws, f, levels, base) {
         return false;
     }
@@ -74,7 +68,9 @@ fn on_two(
     if !crate::list::room(ws, dst, levels) {
         return false;
     }
-    curve::least_of_two(ws, f, g, pen % 1048576, dst, levels, base);
+    let pen = crate::direct::penalty(x);
+    let ch = crate::direct::changes(x);
+    curve::least_of_two(ws, f, g, pen, ch, dst, levels, base);
     true
 }
 
@@ -174,6 +170,7 @@ pub fn edge(
 pub fn range(ws: &[u64], f: usize, from: u64, to: u64, levels: u64, base: u64) -> Low {
     let bad = Low {
         value: 0,
+        changes: 0,
         level: 1048577,
     };
     if !crate::list::valid(ws, f, levels, base) {
@@ -189,6 +186,7 @@ pub fn range(ws: &[u64], f: usize, from: u64, to: u64, levels: u64, base: u64) -
 pub fn before(ws: &[u64], f: usize, number: u64, gap: u64, j: u64, levels: u64, base: u64) -> Low {
     let bad = Low {
         value: 0,
+        changes: 0,
         level: 1048577,
     };
     if !crate::list::valid(ws, f, levels, base) {
@@ -201,13 +199,17 @@ pub fn before(ws: &[u64], f: usize, number: u64, gap: u64, j: u64, levels: u64, 
     edges::least_before(ws, f, kind, j, levels, base)
 }
 
-// What the list at f costs at level j; more than any cost where it may not be read.
-pub fn value(ws: &[u64], f: usize, j: u64, levels: u64, base: u64) -> u64 {
+// What the list at f costs at level j, and with how many changes; more than any cost where it may not be read.
+pub fn value(ws: &[u64], f: usize, j: u64, levels: u64, base: u64) -> Rank {
+    let bad = Rank {
+        value: 18446744073709551615,
+        changes: 0,
+    };
     if !crate::list::valid(ws, f, levels, base) {
-        return 18446744073709551615;
+        return bad;
     }
     if levels <= j {
-        return 18446744073709551615;
+        return bad;
     }
     curve::value_at(ws, f, j, levels, base)
 }

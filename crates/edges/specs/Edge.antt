@@ -1,4 +1,4 @@
--- One edge taken into the least so far. What an edge makes of a list is the model's `edgeMin`; the penalty is added by its `raise`.
+-- One edge taken into the least so far. What an edge makes of a list is the model's `edgeMin`; the penalty and the change are added by its `raise`.
 -- Assumes nothing.
 use mathlib.Core.Path.{_≡_, refl, sym, _∙_}
 use mathlib.Core.Logic.{_⊎_, inl, inr, ⊎-elim}
@@ -12,7 +12,8 @@ use lib.ListN.{length, getD}
 use borrow.Author.Tests.{le-leb, lt-leb, lt-ltb, le-ltb, eq-eqb, ne-eqb}
 use lib.IntN.{ℤ, pos, _+ℤ_}
 use Rattle.integers.specs.Rep.{le-or-lt, iz, nz, _⊕_, eqN, eqZ}
-use Rattle.quadratic.specs.Quad.{none}
+use Rattle.integers.specs.Pairs.{unit, lex}
+use Rattle.quadratic.specs.Quad.{noValue}
 use Rattle.quadratic.specs.Fine.{pickN, plus, far, far-signed, square-most}
 use Rattle.curve.specs.Pieces.{piece, Kept, Same, Apart}
 use Rattle.curve.specs.Lists.{kept-same, count-most}
@@ -22,9 +23,13 @@ use Rattle.model.specs.Index.{noCost, prefixMin, suffixMin, upMin, downMin, edg
 use Rattle.model.specs.Held.{raise}
 use Rattle.model.specs.Model.{square, lossAt}
 
--- a list that may be taken: its values are none or less than B
-abbrev pub Sound : ℕ → ℕ → ℕ → List ℕ → ℕ → Type 0
-Sound B base L ws o = Curve 1048576 B base L ws o (costs base (piece ws o L))
+-- the most readings and changes of a list
+abbrev pub most : ℕ
+most = 1048576
+
+-- a list that may be taken: at most A readings and changes, its costs none or less than B
+abbrev pub Sound : ℕ → ℕ → ℕ → ℕ → List ℕ → ℕ → Type 0
+Sound A B base L ws o = Curve A B base L ws o (costs base (piece ws o L))
 
 -- ---- which words are changed
 
@@ -61,14 +66,14 @@ pub record Hand (acc next work f L size : ℕ) : Type 0 where
   pub f-acc : Apart f acc (4 * L)
   pub room-acc : acc + 4 * L ≤ size
 
--- what is asked for an edge from the list at f: there is room for the penalty
+-- what is asked for an edge from the list at f: there is room for the penalty and for one change
 pub record Ready (acc next work f pen base L : ℕ) (ws : List ℕ) : Type 0 where
   pub hand : Hand acc next work f L (length ws)
   pub low : pen ≤ 18014398509481984
   pub some : 0 < L
-  pub limits : Limits 1048576 18014398509481984 base L
-  pub so-far : Sound 18014398509481984 base L ws acc
-  pub from : Sound (18014398509481984 - pen) base L ws f
+  pub limits : Limits most 18014398509481984 base L
+  pub so-far : Sound most 18014398509481984 base L ws acc
+  pub from : Sound (most - 1) (18014398509481984 - pen) base L ws f
 
 -- ---- the contracts
 
@@ -77,31 +82,33 @@ pub record Moved (E : (ℕ → ℕ) → ℕ → ℕ) (base L : ℕ) (ws ws′ : 
   pub spared : Spared next work work L ws ws′
   pub curve : (A B : ℕ) (G : ℕ → ℕ) → Limits A B base L → Curve A B base L ws f G → Curve A B base L ws′ work (E G)
 
--- beside acc, and with pen added, work is as good as f by E; no list but next and work is written
-pub record StandsFor (E : (ℕ → ℕ) → ℕ → ℕ) (pen base L : ℕ) (ws ws′ : List ℕ) (f acc next work : ℕ) : Type 0 where
+-- beside acc, and with pen and ch changes added, work is as good as f by E; no list but next and work is written
+pub record StandsFor (E : (ℕ → ℕ) → ℕ → ℕ) (pen ch base L : ℕ) (ws ws′ : List ℕ) (f acc next work : ℕ) : Type 0 where
   pub spared : Spared next work work L ws ws′
-  pub curve : (A B C : ℕ) (F G : ℕ → ℕ) → Limits A B base L → C + pen ≤ B → Curve A B base L ws acc F → Curve A C base L ws f G
-      → (H : ℕ → ℕ) × (Curve A C base L ws′ work H × ((j : ℕ) → j < L → min (F j) (raise (H j) pen) ≡ min (F j) (raise (E G j) pen)))
+  pub curve : (A B C D : ℕ) (F G : ℕ → ℕ) → Limits A B base L → D + ch ≤ A → C + pen ≤ B → Curve A B base L ws acc F → Curve D C base L ws f G
+      → (H : ℕ → ℕ) × (Curve D C base L ws′ work H × ((j : ℕ) → j < L → min (F j) (raise (H j) (lex pen ch)) ≡ min (F j) (raise (E G j) (lex pen ch))))
 
--- next is the least of acc and of g with pen added
-pub record Joined (pen base L : ℕ) (ws ws′ : List ℕ) (g acc next : ℕ) : Type 0 where
+-- next is the least of acc and of g with pen and ch changes added
+pub record Joined (pen ch base L : ℕ) (ws ws′ : List ℕ) (g acc next : ℕ) : Type 0 where
   pub kept : Kept ws ws′ next (4 * L)
-  pub curve : (A B C : ℕ) (F G : ℕ → ℕ) → Limits A B base L → C + pen ≤ B → Curve A B base L ws acc F → Curve A C base L ws g G → Curve A B base L ws′ next (λ (j : ℕ). min (F j) (raise (G j) pen))
+  pub curve : (A B C D : ℕ) (F G : ℕ → ℕ) → Limits A B base L → D + ch ≤ A → C + pen ≤ B → Curve A B base L ws acc F → Curve D C base L ws g G
+      → Curve A B base L ws′ next (λ (j : ℕ). min (F j) (raise (G j) (lex pen ch)))
 
 -- r is one of the two places
 abbrev pub OneOf : ℕ → ℕ → ℕ → Type 0
 OneOf a b r = (r ≡ a) ⊎ (r ≡ b)
 
--- r is acc or next, and there is now the least of acc and of f by E with pen added
-pub record Taken (E : (ℕ → ℕ) → ℕ → ℕ) (pen base L : ℕ) (ws ws′ : List ℕ) (f acc next work r : ℕ) : Type 0 where
+-- r is acc or next, and there is now the least of acc and of f by E with pen and ch changes added
+pub record Taken (E : (ℕ → ℕ) → ℕ → ℕ) (pen ch base L : ℕ) (ws ws′ : List ℕ) (f acc next work r : ℕ) : Type 0 where
   pub place : OneOf acc next r
   pub spared : Spared acc next work L ws ws′
-  pub curve : (A B C : ℕ) (F G : ℕ → ℕ) → Limits A B base L → C + pen ≤ B → Curve A B base L ws acc F → Curve A C base L ws f G → Curve A B base L ws′ r (λ (j : ℕ). min (F j) (raise (E G j) pen))
+  pub curve : (A B C D : ℕ) (F G : ℕ → ℕ) → Limits A B base L → D + ch ≤ A → C + pen ≤ B → Curve A B base L ws acc F → Curve D C base L ws f G
+      → Curve A B base L ws′ r (λ (j : ℕ). min (F j) (raise (E G j) (lex pen ch)))
 
 -- dst is the list at f with w times the square of the distance from u
 pub record WithLoss (w u base L : ℕ) (ws ws′ : List ℕ) (f dst : ℕ) : Type 0 where
   pub kept : Kept ws ws′ dst (4 * L)
-  pub curve : (A B : ℕ) (F : ℕ → ℕ) → Limits A B base L → Curve A B base L ws f F → Curve (A + w) (B + w * square-most) base L ws′ dst (λ (j : ℕ). raise (F j) (w * (far u (base + j) * far u (base + j))))
+  pub curve : (A B : ℕ) (F : ℕ → ℕ) → Limits A B base L → Curve A B base L ws f F → Curve (A + w) (B + w * square-most) base L ws′ dst (λ (j : ℕ). raise (F j) (unit * (w * (far u (base + j) * far u (base + j)))))
 
 -- ---- laws of what is spared
 pub spared-refl : (a b c L : ℕ) (ws : List ℕ) → Spared a b c L ws ws
@@ -172,14 +179,14 @@ spared-order {a} {b} {p} {q} {w} {L} {ws} {ws′} o s = ⊎-elim
 pub less-min : (x y : ℕ) → less x y ≡ min x y
 less-min x y = ⊎-elim (λ h. rw (le-leb x y h) (omega arith)) (λ h. rw (lt-leb x y h) (omega arith)) (le-or-lt x y)
 
-pub plus-raise : (k x : ℕ) → x ≤ none → plus k x ≡ raise x k
+pub plus-raise : (k x : ℕ) → x ≤ noValue → plus k x ≡ raise x k
 unfolding raise
 plus-raise k x h = ⊎-elim
-    (λ g. let e : x ≡ none = omega arith in rw (eq-eqb x none e, le-ltb x noCost (omega arith)))
-    (λ g. rw (ne-eqb x none (λ e. omega arith), lt-ltb x noCost (omega arith)))
-    (le-or-lt none x)
+    (λ g. let e : x ≡ noValue = omega arith in rw (eq-eqb x noValue e, le-ltb x noCost (omega arith)))
+    (λ g. rw (ne-eqb x noValue (λ e. omega arith), lt-ltb x noCost (omega arith)))
+    (le-or-lt noValue x)
 
-pub lowest-prefix : (G : ℕ → ℕ) (j : ℕ) → ((i : ℕ) → i ≤ j → G i ≤ none) → lowest G (j + 1) ≡ prefixMin G j
+pub lowest-prefix : (G : ℕ → ℕ) (j : ℕ) → ((i : ℕ) → i ≤ j → G i ≤ noValue) → lowest G (j + 1) ≡ prefixMin G j
 unfolding prefixMin
 lowest-prefix G zero f = lowest-new G 0 (omega (arith, lowest-zero G, f 0 (omega arith)))
 lowest-prefix G (suc j) f =
@@ -190,11 +197,11 @@ lowest-prefix G (suc j) f =
     (λ h. lowest-new G (suc j) h ∙ (omega arith))
     (le-or-lt (lowest G (suc j)) (G (suc j)))
 
-pub raise-none : (x k : ℕ) → none ≤ x → raise x k ≡ x
+pub raise-none : (x k : ℕ) → noValue ≤ x → raise x k ≡ x
 unfolding raise
 raise-none x k h = rw (le-ltb x noCost (omega arith))
 
-pub raise-some : (x k : ℕ) → x < none → raise x k ≡ x + k
+pub raise-some : (x k : ℕ) → x < noValue → raise x k ≡ x + k
 unfolding raise
 raise-some x k h = rw (lt-ltb x noCost (omega arith))
 
@@ -202,17 +209,17 @@ pub min-regroup : (x y z w : ℕ) → min y z ≡ w → min (min x y) z ≡ min 
 min-regroup x y z w e = omega arith
 
 -- the penalty is added to the lesser
-pub raise-min : (x y k : ℕ) → (x < none → x + k ≤ none) → (y < none → y + k ≤ none) → min (raise x k) (raise y k) ≡ raise (min x y) k
+pub raise-min : (x y k : ℕ) → (x < noValue → x + k ≤ noValue) → (y < noValue → y + k ≤ noValue) → min (raise x k) (raise y k) ≡ raise (min x y) k
 raise-min x y k f g = ⊎-elim
     (λ h. ⊎-elim
     (λ i. rw (raise-none x k h, raise-none y k i) (sym (raise-none (min x y) k (omega arith))))
     (λ i. rw (raise-none x k h, raise-some y k i) (omega (arith, g i, raise-some (min x y) k (omega arith))))
-    (le-or-lt none y))
+    (le-or-lt noValue y))
     (λ h. ⊎-elim
     (λ i. rw (raise-some x k h, raise-none y k i) (omega (arith, f h, raise-some (min x y) k (omega arith))))
     (λ i. rw (raise-some x k h, raise-some y k i) (omega (arith, raise-some (min x y) k (omega arith))))
-    (le-or-lt none y))
-    (le-or-lt none x)
+    (le-or-lt noValue y))
+    (le-or-lt noValue x)
 
 -- ---- the loss of a reading: its place is u, and that of the lowest level is base
 module _ (zs : List ℤ) (t : ℕ) (lo : ℤ) (u base : ℕ) (at : pos u ≡ getD zs t (pos 0) +ℤ pos 163840) (from : pos base ≡ lo +ℤ pos 163840) where

@@ -1,7 +1,7 @@
 // The lists of a layer over one edge after the other: the least so far, the loss of a reading, and the step back.
 //
-// Contracts speak of costs at level indices: wherever the lists read cost F and G (`Curve`), the list written costs the model's
-// `edgeMin`, `raise` and `min` of these. Stay is the list itself, any a constant but at one level, up the running minimum shifted, down
+// Contracts speak of values at level indices, a cost and its changes as one number: wherever the lists read have the values F and G (`Curve`), the list
+// written has the model's `edgeMin`, `raise` and `min` of these. Stay is the list itself, any a constant but at one level, up the running minimum shifted, down
 // the same in the mirror, abs both. `any_into` leaves out what would not be seen in the minimum.
 //
 // Three temporary lists are handed on: acc is the least so far, the next one goes to next, and work is one to work in. They are three
@@ -17,12 +17,13 @@ ghost use lib.Dec.{ltb};
 ghost use lib.ListN.{length};
 ghost use Rattle.plan.specs.declared.Kind.the-variants.{Any};
 ghost use Rattle.plan.specs.Build.{gapOf};
+ghost use Rattle.model.specs.Model.{changeOf};
 ghost use Rattle.model.specs.Index.{upMin, downMin, edgeMin, Permitted};
 ghost use Rattle.curve.specs.Pieces.{piece, Apart};
-ghost use Rattle.curve.specs.Lows.{costs, noLow};
+ghost use Rattle.curve.specs.Lows.{few, topCost, lowOf, costs, noLow};
 ghost use Rattle.curve.specs.Curve.{Limits};
 ghost use Rattle.edges.specs.Back.{LeastOf, pickLow};
-ghost use Rattle.edges.specs.Edge.{Into, Joint, Sound, Ready, Moved, StandsFor, Joined, Taken, WithLoss};
+ghost use Rattle.edges.specs.Edge.{most, Into, Joint, Sound, Ready, Moved, StandsFor, Joined, Taken, WithLoss};
 
 // work: at each level the least of f at the other levels. That is the least of all, but at a level that has it: there it is the second least. It
 // is left out where it cannot be seen, the least so far being no dearer there than the least with pen. So it is where a stay from f, no dearer
@@ -38,21 +39,26 @@ fn any_into(
     base: u64,
 )
     requires { ⌜ Ready acc next work f pen base levels (now ws) ⌝ }
-    ensures { λ r. ⌜ StandsFor (edgeMin levels Any) pen base levels (now (ws .entry)) (now (ws .exit)) f acc next work ⌝ }
+    ensures { λ r. ⌜ StandsFor (edgeMin levels Any) pen 1 base levels (now (ws .entry)) (now (ws .exit)) f acc next work ⌝ }
 {
     let two = curve::two_least(ws, f, levels, base);
     let so_far = curve::value_at(ws, acc, two.level, levels, base);
-    if so_far <= two.value + pen {
-        curve::constant(ws, work, levels, two.value);
+    if quadratic::comes_first(
+        two.value + pen,
+        two.changes + 1,
+        so_far.value,
+        so_far.changes,
+    ) {
+        curve::constant_but(ws, work, levels, two);
         return;
     }
-    curve::constant_but(ws, work, levels, two.value, two.level, two.second);
+    curve::constant(ws, work, levels, two.value, two.changes);
 }
 
 // work: at each level the least of f at the levels at least gap below.
 fn up_into(ws: &mut [u64], f: usize, gap: u64, next: usize, work: usize, levels: u64, base: u64)
     requires { ⌜ Into f next work levels (length (now ws)) × (gap < 1024) ⌝ }
-    requires { ⌜ Limits 1048576 18014398509481984 base levels × Sound 18014398509481984 base levels (now ws) f ⌝ }
+    requires { ⌜ Limits most 18014398509481984 base levels × Sound most 18014398509481984 base levels (now ws) f ⌝ }
     ensures { λ r. ⌜ Moved (upMin gap) base levels (now (ws .entry)) (now (ws .exit)) f next work ⌝ }
 {
     curve::running_min(ws, f, next, levels, base);
@@ -62,7 +68,7 @@ fn up_into(ws: &mut [u64], f: usize, gap: u64, next: usize, work: usize, levels:
 // work: at each level the least of f at the levels at least gap above, which is the same in the mirror.
 fn down_into(ws: &mut [u64], f: usize, gap: u64, next: usize, work: usize, levels: u64, base: u64)
     requires { ⌜ Into f next work levels (length (now ws)) × (gap < 1024) ⌝ }
-    requires { ⌜ Limits 1048576 18014398509481984 base levels × Sound 18014398509481984 base levels (now ws) f ⌝ }
+    requires { ⌜ Limits most 18014398509481984 base levels × Sound most 18014398509481984 base levels (now ws) f ⌝ }
     ensures { λ r. ⌜ Moved (downMin levels gap) base levels (now (ws .entry)) (now (ws .exit)) f next work ⌝ }
 {
     curve::mirror(ws, f, next, levels, base);
@@ -71,14 +77,23 @@ fn down_into(ws: &mut [u64], f: usize, gap: u64, next: usize, work: usize, level
     curve::mirror(ws, next, work, levels, base);
 }
 
-// The least so far and g with pen added, at next.
-fn take(ws: &mut [u64], acc: usize, next: usize, g: usize, pen: u64, levels: u64, base: u64)
-    requires { ⌜ Joint acc next g levels (length (now ws)) × (pen ≤ 18014398509481984) ⌝ }
-    requires { ⌜ Limits 1048576 18014398509481984 base levels ⌝ }
-    requires { ⌜ Sound 18014398509481984 base levels (now ws) acc × Sound (18014398509481984 - pen) base levels (now ws) g ⌝ }
-    ensures { λ r. ⌜ Joined pen base levels (now (ws .entry)) (now (ws .exit)) g acc next ⌝ }
+// The least so far and g with pen and ch changes added, at next.
+fn take(
+    ws: &mut [u64],
+    acc: usize,
+    next: usize,
+    g: usize,
+    pen: u64,
+    ch: u64,
+    levels: u64,
+    base: u64,
+)
+    requires { ⌜ Joint acc next g levels (length (now ws)) × ((pen ≤ 18014398509481984) × (ch ≤ 1)) ⌝ }
+    requires { ⌜ Limits most 18014398509481984 base levels ⌝ }
+    requires { ⌜ Sound most 18014398509481984 base levels (now ws) acc × Sound (most - 1) (18014398509481984 - pen) base levels (now ws) g ⌝ }
+    ensures { λ r. ⌜ Joined pen ch base levels (now (ws .entry)) (now (ws .exit)) g acc next ⌝ }
 {
-    curve::least_of_two(ws, acc, g, pen, next, levels, base);
+    curve::least_of_two(ws, acc, g, pen, ch, next, levels, base);
 }
 
 // An edge of kind any, at next.
@@ -93,10 +108,10 @@ fn take_any(
     base: u64,
 )
     requires { ⌜ Ready acc next work f pen base levels (now ws) ⌝ }
-    ensures { λ r. ⌜ Taken (edgeMin levels Any) pen base levels (now (ws .entry)) (now (ws .exit)) f acc next work next ⌝ }
+    ensures { λ r. ⌜ Taken (edgeMin levels Any) pen 1 base levels (now (ws .entry)) (now (ws .exit)) f acc next work next ⌝ }
 {
     any_into(ws, acc, next, work, f, pen, levels, base);
-    take(ws, acc, next, work, pen, levels, base);
+    take(ws, acc, next, work, pen, 1, levels, base);
 }
 
 // An edge of kind up, at next.
@@ -112,10 +127,10 @@ fn take_up(
     base: u64,
 )
     requires { ⌜ Ready acc next work f pen base levels (now ws) × (gap < 1024) ⌝ }
-    ensures { λ r. ⌜ Taken (upMin gap) pen base levels (now (ws .entry)) (now (ws .exit)) f acc next work next ⌝ }
+    ensures { λ r. ⌜ Taken (upMin gap) pen 1 base levels (now (ws .entry)) (now (ws .exit)) f acc next work next ⌝ }
 {
     up_into(ws, f, gap, next, work, levels, base);
-    take(ws, acc, next, work, pen, levels, base);
+    take(ws, acc, next, work, pen, 1, levels, base);
 }
 
 // An edge of kind down, at next.
@@ -131,14 +146,14 @@ fn take_down(
     base: u64,
 )
     requires { ⌜ Ready acc next work f pen base levels (now ws) × (gap < 1024) ⌝ }
-    ensures { λ r. ⌜ Taken (downMin levels gap) pen base levels (now (ws .entry)) (now (ws .exit)) f acc next work next ⌝ }
+    ensures { λ r. ⌜ Taken (downMin levels gap) pen 1 base levels (now (ws .entry)) (now (ws .exit)) f acc next work next ⌝ }
 {
     down_into(ws, f, gap, next, work, levels, base);
-    take(ws, acc, next, work, pen, levels, base);
+    take(ws, acc, next, work, pen, 1, levels, base);
 }
 
 // The least so far with an edge from the list at f taken in: where it stands, which is acc or next. A list that is none everywhere
-// offers nothing. The rule for the levels is chosen by the kind's number; the range is for numbers that no kind has.
+// offers nothing. The rule for the levels is chosen by the kind's number; the range is for numbers that no kind has. Every kind but stay is one change more.
 pub fn take_edge(
     ws: &mut [u64],
     acc: usize,
@@ -151,7 +166,7 @@ pub fn take_edge(
     base: u64,
 ) -> usize
     requires { ⌜ Ready acc next work f pen base levels (now ws) × (gapOf kind ≤ 1023) ⌝ }
-    ensures { λ r. ⌜ Taken (edgeMin levels kind) pen base levels (now (ws .entry)) (now (ws .exit)) f acc next work r ⌝ }
+    ensures { λ r. ⌜ Taken (edgeMin levels kind) pen (changeOf kind) base levels (now (ws .entry)) (now (ws .exit)) f acc next work r ⌝ }
 {
     if curve::all_none(ws, f, levels) {
         return acc;
@@ -160,7 +175,7 @@ pub fn take_edge(
     let gap = plan::gap_of(kind) as u64;
     match number {
         0 => {
-            take(ws, acc, next, f, pen, levels, base);
+            take(ws, acc, next, f, pen, 0, levels, base);
             next
         }
         1 => {
@@ -188,7 +203,7 @@ pub fn take_edge(
 pub fn add_reading(ws: &mut [u64], f: usize, u: u64, w: u64, dst: usize, levels: u64, base: u64)
     requires { ⌜ Apart f dst (4 * levels) × (dst + 4 * levels ≤ length (now ws)) ⌝ }
     requires { ⌜ ((131072 ≤ u) × (u < 196608)) × ((w < 256) × (base + levels ≤ 196608)) ⌝ }
-    requires { ⌜ Limits 1048576 18014398509481984 base levels × Sound 18014398509481984 base levels (now ws) f ⌝ }
+    requires { ⌜ Limits most 18014398509481984 base levels × Sound most 18014398509481984 base levels (now ws) f ⌝ }
     ensures { λ r. ⌜ WithLoss w u base levels (now (ws .entry)) (now (ws .exit)) f dst ⌝ }
 {
     curve::add_loss(ws, f, u, w, dst, levels);
@@ -196,9 +211,14 @@ pub fn add_reading(ws: &mut [u64], f: usize, u: u64, w: u64, dst: usize, levels:
 
 // The lower of two, the first where they are equal.
 fn lower_of(a: Low, b: Low) -> Low
-    ensures { λ r. ⌜ r ≡ pickLow (ltb (b .value) (a .value)) b a ⌝ }
+    requires { ⌜ (a .changes ≤ few) × ((b .changes ≤ few) × (b .value ≤ topCost)) ⌝ }
+    ensures { λ r. ⌜ r ≡ pickLow (ltb (lowOf b) (lowOf a)) b a ⌝ }
 {
-    if b.value < a.value { b } else { a }
+    if quadratic::comes_first(b.value, b.changes, a.value, a.changes) {
+        b
+    } else {
+        a
+    }
 }
 
 // Where there is no level to be taken from.
@@ -207,13 +227,14 @@ fn no_low() -> Low
 {
     Low {
         value: quadratic::NONE + 1,
+        changes: 0,
         level: 0,
     }
 }
 
 // The least of f at the levels at least gap below j, with the lowest of them that has it.
 fn least_below(ws: &[u64], f: usize, gap: u64, j: u64, levels: u64, base: u64) -> Low
-    requires { ⌜ Limits 1048576 18014398509481984 base levels × Sound 18014398509481984 base levels (now ws) f ⌝ }
+    requires { ⌜ Limits most 18014398509481984 base levels × Sound most 18014398509481984 base levels (now ws) f ⌝ }
     requires { ⌜ j < levels ⌝ }
     ensures { λ r. ⌜ LeastOf (λ (i : ℕ). i + gap ≤ j) levels (costs base (piece (now (ws .entry)) f levels)) r ⌝ }
 {
@@ -226,7 +247,7 @@ fn least_below(ws: &[u64], f: usize, gap: u64, j: u64, levels: u64, base: u64) -
 
 // The least of f at the levels at least gap above j, with the lowest of them that has it.
 fn least_above(ws: &[u64], f: usize, gap: u64, j: u64, levels: u64, base: u64) -> Low
-    requires { ⌜ Limits 1048576 18014398509481984 base levels × Sound 18014398509481984 base levels (now ws) f ⌝ }
+    requires { ⌜ Limits most 18014398509481984 base levels × Sound most 18014398509481984 base levels (now ws) f ⌝ }
     requires { ⌜ (j < levels) × (gap < 1024) ⌝ }
     ensures { λ r. ⌜ LeastOf (λ (i : ℕ). j + gap ≤ i) levels (costs base (piece (now (ws .entry)) f levels)) r ⌝ }
 {
@@ -235,7 +256,7 @@ fn least_above(ws: &[u64], f: usize, gap: u64, j: u64, levels: u64, base: u64) -
 
 // The least of f at the levels at least gap from j, with the lowest of them that has it.
 fn least_beside(ws: &[u64], f: usize, gap: u64, j: u64, levels: u64, base: u64) -> Low
-    requires { ⌜ Limits 1048576 18014398509481984 base levels × Sound 18014398509481984 base levels (now ws) f ⌝ }
+    requires { ⌜ Limits most 18014398509481984 base levels × Sound most 18014398509481984 base levels (now ws) f ⌝ }
     requires { ⌜ (j < levels) × (gap < 1024) ⌝ }
     ensures { λ r. ⌜ LeastOf (λ (i : ℕ). (i + gap ≤ j) ⊎ (j + gap ≤ i)) levels (costs base (piece (now (ws .entry)) f levels)) r ⌝ }
 {
@@ -247,7 +268,7 @@ fn least_beside(ws: &[u64], f: usize, gap: u64, j: u64, levels: u64, base: u64) 
 // The least of f at the levels from which an edge of the kind leads to level j, with the lowest of them that has it;
 // none, or more, where there is no cost.
 pub fn least_before(ws: &[u64], f: usize, kind: Kind, j: u64, levels: u64, base: u64) -> Low
-    requires { ⌜ Limits 1048576 18014398509481984 base levels × Sound 18014398509481984 base levels (now ws) f ⌝ }
+    requires { ⌜ Limits most 18014398509481984 base levels × Sound most 18014398509481984 base levels (now ws) f ⌝ }
     requires { ⌜ (j < levels) × (gapOf kind ≤ 1023) ⌝ }
     ensures { λ r. ⌜ LeastOf (λ (i : ℕ). Permitted kind i j) levels (costs base (piece (now (ws .entry)) f levels)) r ⌝ }
 {

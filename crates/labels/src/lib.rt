@@ -30,7 +30,7 @@ const ONE_UP: u8 = 8;
 pub const COUNTS: usize = MOST_CHANGES as usize + 1;
 
 // 1 for a change, 0 for a stay.
-fn change_of(k: Kind) -> usize
+pub fn change_of(k: Kind) -> usize
     ensures { λ r. ⌜ r ≡ changeOf k ⌝ }
 {
     match k {

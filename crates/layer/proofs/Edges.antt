@@ -18,7 +18,7 @@ use Rattle.labels.specs.Boundary.{leadsFrom}
 use Rattle.curve.specs.Pieces.{piece}
 use Rattle.curve.specs.Lows.{costs}
 use Rattle.curve.specs.Curve.{Curve, Limits, curve-as, curve-most, curve-costs, curve-wider}
-use Rattle.edges.specs.Edge.{Hand, Order, Sound, spared-refl, spared-then, spared-curve, spared-order, hand-order, order-other, order-place}
+use Rattle.edges.specs.Edge.{most, Hand, Order, Sound, spared-refl, spared-then, spared-curve, spared-order, hand-order, order-other, order-place}
 use Rattle.layer.specs.declared.Shape.{Shape}
 use Rattle.layer.specs.Layer.{placeMost, listAt, fromPlace}
 use Rattle.layer.specs.Step.{sourceOf, offered, edgeOf, leastOffered, MayTake, TookOne, EdgesReady, TookEdges}
@@ -42,7 +42,7 @@ module _ (o : Option Label) (t : ℕ) (es : List Edge) (k s cur moved : ℕ) (g 
   took-none ws first second work = record {
     place = inl refl;
     spared = spared-refl _ _ _ _ ws;
-    curve = λ A B C F T l h c f. curve-as (λ (j : ℕ). min (F j) (leastOffered o t es 0 k s (g .levels) T j)) (λ j i. omega (arith, curve-most l c j i, min-nothing (λ (e : ℕ). offered o t (edgeOf es e) k s (g .levels) (T (changeOf (edgeOf es e .kind))) j))) c;
+    curve = λ A B C D F T l d h c f. curve-as (λ (j : ℕ). min (F j) (leastOffered o t es 0 k s (g .levels) T j)) (λ j i. omega (arith, curve-most l c j i, min-nothing (λ (e : ℕ). offered o t (edgeOf es e) k s (g .levels) (T (changeOf (edgeOf es e .kind))) j))) c;
   }
 
   module _ {ws ws′ : List ℕ} {first second work r n i : ℕ} (a : EdgesReady o t es n k s cur moved g first second work ws) (h : i < n) (m : TookEdges o t es i k s cur moved g ws ws′ first second work r) where
@@ -64,10 +64,10 @@ module _ (o : Option Label) (t : ℕ) (es : List Edge) (k s cur moved : ℕ) (g 
     abbrev from : ℕ
     from = fromPlace (changeOf (edgeOf es i .kind)) cur moved
 
-    acc-sound : Sound 18014398509481984 (g .base) (g .levels) ws′ r
+    acc-sound : Sound most 18014398509481984 (g .base) (g .levels) ws′ r
     acc-sound =
         curve-costs
-        (m .curve 1048576 18014398509481984 (18014398509481984 - penaltyMost) _ kept-costs (a .limits) (omega arith) (a .so-far) (λ e he l. a .sound e (omega arith) l))
+        (m .curve most 18014398509481984 (18014398509481984 - penaltyMost) (most - 1) _ kept-costs (a .limits) (omega arith) (omega arith) (a .so-far) (λ e he l. a .sound e (omega arith) l))
 
     pub may-take : MayTake o t (edgeOf es i) k s from g r (first + second - r) work ws′
     may-take = record {
@@ -85,7 +85,7 @@ module _ (o : Option Label) (t : ℕ) (es : List Edge) (k s cur moved : ℕ) (g 
         some = a .some;
         limits = a .limits;
         so-far = acc-sound;
-        from = curve-costs (curve-wider 1048576 (18014398509481984 - penalty (edgeOf es i .class)) (omega arith) (omega (arith, penalty-most (edgeOf es i .class))) (source-kept i h l (a .sound i h l)));
+        from = curve-costs (curve-wider (most - 1) (18014398509481984 - penalty (edgeOf es i .class)) (omega arith) (omega (arith, penalty-most (edgeOf es i .class))) (source-kept i h l (a .sound i h l)));
       };
     }
 
@@ -93,10 +93,10 @@ module _ (o : Option Label) (t : ℕ) (es : List Edge) (k s cur moved : ℕ) (g 
     took-more {ws″} {q} w = record {
       place = order-place other (w .place);
       spared = spared-then (m .spared) (spared-order other (w .spared));
-      curve = λ A B C F T l b c f.
+      curve = λ A B C D F T l d b c f.
           curve-as (λ (j : ℕ). min (F j) (leastOffered o t es (i + 1) k s (g .levels) T j))
           (λ j z. omega (arith, min-one-more i (λ (e : ℕ). offered o t (edgeOf es e) k s (g .levels) (T (changeOf (edgeOf es e .kind))) j)))
-          (w .curve A B C _ (T (changeOf (edgeOf es i .kind))) l b (m .curve A B C F T l b c (λ e he. f e (omega arith))) (λ e. source-kept i h e (f i (omega arith) e)));
+          (w .curve A B C D _ (T (changeOf (edgeOf es i .kind))) l d b (m .curve A B C D F T l d b c (λ e he. f e (omega arith))) (λ e. source-kept i h e (f i (omega arith) e)));
     }
 
 -- the count as code reads it

@@ -20,7 +20,7 @@ use Rattle.curve.specs.Lists.{count-most}
 use Rattle.curve.specs.Curve.{Curve, curve-same}
 use Rattle.edges.specs.Edge.{Off}
 use Rattle.layer.specs.declared.Shape.{Shape}
-use Rattle.layer.specs.Layer.{stepMost, baseOf, listAt, layerWords, ShapeOf, LayerOf, Sources}
+use Rattle.layer.specs.Layer.{readingMost, countMost, baseOf, listAt, layerWords, ShapeOf, LayerOf, Sources}
 use Rattle.layer.specs.Next.{Task, Beside, NextReady, NextList, Lists, One, OfCount, Counts, Aside, StepReady, Stepped, FirstReady, StartReady}
 use Rattle.layer.proofs.Next.{list-within}
 
@@ -69,7 +69,7 @@ module _ (P : Plan) (t : ℕ) (H : Table) (o free : ℕ) where
     list = λ k s. ⊎-elim (λ q. first k s q) (λ r. w .list k s r);
   }
     where
-      first : (k s : ℕ) → Q k s → Curve t (t * stepMost) (baseOf P) (width P) ws″ (listAt o (P .states) (width P) k s) (H k s)
+      first : (k s : ℕ) → Q k s → Curve (t * countMost) (t * readingMost) (baseOf P) (width P) ws″ (listAt o (P .states) (width P) k s) (H k s)
       first k s q =
           let b = list-within o (P .states) (width P) k s (hq k s q .0) (hq k s q .1) in
           kept-list (w .size)

@@ -28,13 +28,15 @@ use Rattle.model.specs.Index.{noCost}
 use Rattle.model.specs.Held.{raise, penaltyMost, Table, minBelow, min-none, byEdge, leadsAt, firstTable, nextFrom, nextTable}
 use Rattle.model.specs.Ends.{lossMost, losses-low, tableAt}
 use Rattle.labels.specs.Boundary.{leadsFrom, leads-at}
-use Rattle.quadratic.specs.Quad.{none, flat}
+use Rattle.integers.specs.Pairs.{unit, lex}
+use Rattle.quadratic.specs.Quad.{none, noValue, flat, absent}
 use Rattle.quadratic.specs.Fine.{far, square-most}
 use Rattle.curve.specs.Pieces.{Kept, Made, Apart}
-use Rattle.curve.specs.Curve.{Curve, Limits, curve-as, curve-kept, curve-costs, curve-wider, curve-flat, near}
-use Rattle.edges.specs.Edge.{Hand, Spared, Sound, Off, WithLoss, loss-place}
+use Rattle.curve.specs.Lows.{levelled-is}
+use Rattle.curve.specs.Curve.{Curve, Limits, Bounded, curve-as, curve-kept, curve-costs, curve-wider, curve-flat, near}
+use Rattle.edges.specs.Edge.{most, Hand, Spared, Sound, Off, WithLoss, loss-place}
 use Rattle.layer.specs.declared.Shape.{Shape}
-use Rattle.layer.specs.Layer.{tempWords, stepMost, baseOf, listAt, layerWords, Shape-small, ShapeOf, fromPlace, LayerOf, Sources}
+use Rattle.layer.specs.Layer.{tempWords, readingMost, countMost, baseOf, listAt, layerWords, Shape-small, ShapeOf, fromPlace, LayerOf, Sources}
 use Rattle.layer.specs.Step.{sourceOf, offered, offered-by, edgeOf, leastOffered, EdgesReady, TookEdges}
 use Rattle.layer.specs.Next.{Task, Beside, NextReady, NextList, FirstReady, firstCost}
 
@@ -132,7 +134,7 @@ module _ {P : Plan} {zs : List ℤ} {o : Option Label} {t cur moved dst free k s
   abbrev size : ℕ
   size = 4 * g .levels
 
-  few : t ≤ 4096
+  few : t < 4096
   few = omega (arith, a .more, a .task .ready .few-readings)
 
   led : (e : ℕ) → leadsFrom o t (edgeOf (P .edges) e) k s ≡ true → leadsAt P t e k s ≡ true
@@ -162,26 +164,26 @@ module _ {P : Plan} {zs : List ℤ} {o : Option Label} {t cur moved dst free k s
       let w = list-within (place e) (P .states) (width P) (countBefore o t (edgeAt P e .kind) k) (edgeAt P e .from) (before-low e l) (a .task .ready .plan .edge e h .from-below) in
       rw (a .task .shape .states, a .task .shape .levels) (omega (arith, w, place-below e))
 
-  most : t * stepMost ≤ 18014398509481984 - penaltyMost
-  most = omega (arith, mul-le-mul-right stepMost few)
+  most-cost : t * readingMost ≤ 18014398509481984 - penaltyMost
+  most-cost = omega (arith, mul-le-mul-right readingMost few)
 
   module _ (T : ℕ → Table) (m : Sources P t T ws cur moved) where
     -- the list that an edge comes from, and what it costs
     source-list : (e : ℕ) → e < P .edgecount → leadsFrom o t (edgeOf (P .edges) e) k s ≡ true
-        → Curve t (t * stepMost) (g .base) (g .levels) ws (sourceOf o t (edgeOf (P .edges) e) k cur moved g) (T (changeOf (edgeAt P e .kind)) (countBefore o t (edgeAt P e .kind) k) (edgeAt P e .from))
+        → Curve (t * countMost) (t * readingMost) (g .base) (g .levels) ws (sourceOf o t (edgeOf (P .edges) e) k cur moved g) (T (changeOf (edgeAt P e .kind)) (countBefore o t (edgeAt P e .kind) k) (edgeAt P e .from))
     source-list e h l =
         to-shape (a .task .shape)
         (rw (a .task .shape .states, a .task .shape .levels) (source-layer m (edgeAt P e .kind) .list (countBefore o t (edgeAt P e .kind) k) (edgeAt P e .from) (before-used e l) (a .task .ready .plan .edge e h .from-below)))
 
-    source-kept : {w1 : List ℕ} → Made (λ (j : ℕ). flat none) ws w1 free (g .levels) → (e : ℕ) → e < P .edgecount → leadsFrom o t (edgeOf (P .edges) e) k s ≡ true
-        → Curve t (t * stepMost) (g .base) (g .levels) w1 (sourceOf o t (edgeOf (P .edges) e) k cur moved g) (T (changeOf (edgeAt P e .kind)) (countBefore o t (edgeAt P e .kind) k) (edgeAt P e .from))
+    source-kept : {w1 : List ℕ} → Made (λ (j : ℕ). absent) ws w1 free (g .levels) → (e : ℕ) → e < P .edgecount → leadsFrom o t (edgeOf (P .edges) e) k s ≡ true
+        → Curve (t * countMost) (t * readingMost) (g .base) (g .levels) w1 (sourceOf o t (edgeOf (P .edges) e) k cur moved g) (T (changeOf (edgeAt P e .kind)) (countBefore o t (edgeAt P e .kind) k) (edgeAt P e .from))
     source-kept m1 e h l = let c = source-list e h l in curve-kept (m1 .kept) c (near free c (inl (source-below e h l)))
 
-  module _ {w1 : List ℕ} (m1 : Made (λ (j : ℕ). flat none) ws w1 free (g .levels)) where
+  module _ {w1 : List ℕ} (m1 : Made (λ (j : ℕ). absent) ws w1 free (g .levels)) where
     room-now : free + 3 * size ≤ length w1
     room-now = omega (arith, m1 .kept .size, a .room, a .task .shape .levels)
 
-    acc-none : {A B : ℕ} → Curve A B (g .base) (g .levels) w1 free (λ (j : ℕ). none)
+    acc-none : {A B : ℕ} → Curve A B (g .base) (g .levels) w1 free (λ (j : ℕ). noValue)
     acc-none = curve-flat (inl refl) (omega (arith, a .room, a .task .shape .levels)) m1
 
     pub edges-ready : EdgesReady o t (P .edges) (P .edgecount) k s cur moved g free (free + size) (free + 2 * size) w1
@@ -191,7 +193,7 @@ module _ {P : Plan} {zs : List ℤ} {o : Option Label} {t cur moved dst free k s
       count = a .count;
       place = omega (arith, a .below, a .place);
       place-moved = omega (arith, a .moved-below, a .place);
-      limits = limits (a .task) 1048576 18014398509481984 (omega arith) (omega arith);
+      limits = limits (a .task) most 18014398509481984 (omega arith) (omega arith);
       few = a .task .ready .plan .few-edges;
       some = some-levels (a .task);
       so-far = curve-costs acc-none;
@@ -205,15 +207,15 @@ module _ {P : Plan} {zs : List ℤ} {o : Option Label} {t cur moved dst free k s
         f-acc = inl b;
         room-acc = omega (arith, room-now);
       };
-      sound = λ e h l. curve-costs (curve-wider 1048576 (18014398509481984 - penaltyMost) (omega (arith, few)) most (source-kept (a .tables) (a .sources) m1 e h l));
+      sound = λ e h l. curve-costs (curve-wider (most - 1) (18014398509481984 - penaltyMost) (omega (arith, few)) most-cost (source-kept (a .tables) (a .sources) m1 e h l));
     }
 
     module _ {w2 : List ℕ} {r : ℕ} (m2 : TookEdges o t (P .edges) (P .edgecount) k s cur moved g w1 w2 free (free + size) (free + 2 * size) r) where
       -- the least over the edges
       acc-least : (T : ℕ → Table) → Sources P t T ws cur moved
-          → Curve t (t * stepMost + penaltyMost) (g .base) (g .levels) w2 r (λ (j : ℕ). min none (leastOffered o t (P .edges) (P .edgecount) k s (g .levels) T j))
+          → Curve (t * countMost + 1) (t * readingMost + penaltyMost) (g .base) (g .levels) w2 r (λ (j : ℕ). min noValue (leastOffered o t (P .edges) (P .edgecount) k s (g .levels) T j))
       acc-least T m =
-          m2 .curve t (t * stepMost + penaltyMost) (t * stepMost) (λ (j : ℕ). none) T (limits (a .task) _ _ (omega (arith, few)) (omega (arith, most))) (omega arith) acc-none
+          m2 .curve (t * countMost + 1) (t * readingMost + penaltyMost) (t * readingMost) (t * countMost) (λ (j : ℕ). noValue) T (limits (a .task) _ _ (omega (arith, few)) (omega (arith, most-cost))) (omega arith) (omega arith) acc-none
           (λ e h l. source-kept T m m1 e h l)
 
       dst-apart : Apart r dst (4 * g .levels)
@@ -222,32 +224,32 @@ module _ {P : Plan} {zs : List ℤ} {o : Option Label} {t cur moved dst free k s
       dst-room : dst + 4 * g .levels ≤ length w2
       dst-room = omega (arith, a .under, a .task .shape .levels, a .room, m1 .kept .size, m2 .spared .size)
 
-      acc-sound : Sound 18014398509481984 (g .base) (g .levels) w2 r
-      acc-sound = curve-costs (curve-wider 1048576 18014398509481984 (omega (arith, few)) (omega (arith, most)) (acc-least (a .tables) (a .sources)))
+      acc-sound : Sound most 18014398509481984 (g .base) (g .levels) w2 r
+      acc-sound = curve-costs (curve-wider most 18014398509481984 (omega (arith, few)) (omega (arith, most-cost)) (acc-least (a .tables) (a .sources)))
 
       pub reading-ready : {u : ℕ} → (131072 ≤ u) × (u < 196608)
-          → ((Apart r dst (4 * g .levels) × (dst + 4 * g .levels ≤ length w2)) × ((((131072 ≤ u) × (u < 196608)) × ((1 < 256) × (g .base + g .levels ≤ 196608))) × (Limits 1048576 18014398509481984 (g .base) (g .levels) × Sound 18014398509481984 (g .base) (g .levels) w2 r)))
+          → ((Apart r dst (4 * g .levels) × (dst + 4 * g .levels ≤ length w2)) × ((((131072 ≤ u) × (u < 196608)) × ((1 < 256) × (g .base + g .levels ≤ 196608))) × (Limits most 18014398509481984 (g .base) (g .levels) × Sound most 18014398509481984 (g .base) (g .levels) w2 r)))
       reading-ready h =
-          ((dst-apart, dst-room), ((h, (omega arith, omega (arith, a .task .shape .base, a .task .shape .levels, places-to (a .task)))), (limits (a .task) 1048576 18014398509481984 (omega arith) (omega arith), acc-sound)))
+          ((dst-apart, dst-room), ((h, (omega arith, omega (arith, a .task .shape .base, a .task .shape .levels, places-to (a .task)))), (limits (a .task) most 18014398509481984 (omega arith) (omega arith), acc-sound)))
 
       module _ (u : ℕ) (at : pos u ≡ getD zs t (pos 0) +ℤ pos 163840) {w3 : List ℕ} (m3 : WithLoss 1 u (g .base) (g .levels) w2 w3 r dst) where
-        value-is : (T : ℕ → Table) (j : ℕ) → raise (min none (leastOffered o t (P .edges) (P .edgecount) k s (g .levels) T j)) (1 * (far u (g .base + j) * far u (g .base + j))) ≡ nextFrom P zs t T k s j
+        value-is : (T : ℕ → Table) (j : ℕ) → raise (min noValue (leastOffered o t (P .edges) (P .edgecount) k s (g .levels) T j)) (unit * (1 * (far u (g .base + j) * far u (g .base + j)))) ≡ nextFrom P zs t T k s j
         unfolding nextFrom
         value-is T j =
             let L = a .task .shape .levels in
             let f : ℕ → ℕ = λ (e : ℕ). byEdge P t (T (changeOf (edgeAt P e .kind))) k s j e in
             let x : leastOffered o t (P .edges) (P .edgecount) k s (g .levels) T j ≡ minBelow (P .edgecount) f =
             min-ext (P .edgecount) _ _ (λ e h. rw (L, a .on) (offered-by P t (T (changeOf (edgeAt P e .kind))) k s j e)) in
-            let y : min none (leastOffered o t (P .edges) (P .edgecount) k s (g .levels) T j) ≡ minBelow (P .edgecount) f = omega (arith, x, min-none (P .edgecount) f) in
+            let y : min noValue (leastOffered o t (P .edges) (P .edgecount) k s (g .levels) T j) ≡ minBelow (P .edgecount) f = omega (arith, x, min-none (P .edgecount) f) in
             let z : 1 * (far u (g .base + j) * far u (g .base + j)) ≡ lossAt zs t (P .lo +ℤ pos j) = omega (arith, loss-place zs t (P .lo) u (g .base) at (base-place (a .task)) j) in
             rw (y, z) refl
 
-        next-curve : (T : ℕ → Table) → Sources P t T ws cur moved → Curve (suc t) (suc t * stepMost) (baseOf P) (width P) w3 dst (nextFrom P zs t T k s)
+        next-curve : (T : ℕ → Table) → Sources P t T ws cur moved → Curve (suc t * countMost) (suc t * readingMost) (baseOf P) (width P) w3 dst (nextFrom P zs t T k s)
         next-curve T m =
             of-shape (a .task .shape)
-            (curve-wider (suc t) (suc t * stepMost) (omega arith) (omega arith)
+            (curve-wider (suc t * countMost) (suc t * readingMost) (omega arith) (omega arith)
             (curve-as (nextFrom P zs t T k s) (λ j h. value-is T j)
-            (m3 .curve t (t * stepMost + penaltyMost) _ (limits (a .task) _ _ (omega (arith, few)) (omega (arith, most))) (acc-least T m))))
+            (m3 .curve (t * countMost + 1) (t * readingMost + penaltyMost) _ (limits (a .task) _ _ (omega (arith, few)) (omega (arith, most-cost))) (acc-least T m))))
 
         besides : Beside dst free (width P) ws w3
         besides = record { size = m3 .kept .size ∙ m2 .spared .size ∙ m1 .kept .size; word = word }
@@ -268,11 +270,11 @@ module _ {P : Plan} {zs : List ℤ} {o : Option Label} {t cur moved dst free k s
 -- ---- the first layer
 
 module _ (P : Plan) (k s : ℕ) where
-  pub first-not : (k ≡ 0 → ⊥) → noCost ≡ firstCost P k s
+  pub first-not : (k ≡ 0 → ⊥) → none ≡ firstCost P k s
   unfolding firstCost
   first-not h = rw (ne-eqb k 0 h) (go (inSet (P .start) s))
     where
-      go : (b : Bool) → noCost ≡ cond (b && false) 0 noCost
+      go : (b : Bool) → none ≡ cond (b && false) 0 none
       go true = refl
       go false = refl
 
@@ -280,34 +282,35 @@ module _ (P : Plan) (k s : ℕ) where
   unfolding firstCost
   first-in e h = rw (eq-eqb k 0 h, e) refl
 
-  pub first-out : inSet (P .start) s ≡ false → k ≡ 0 → noCost ≡ firstCost P k s
+  pub first-out : inSet (P .start) s ≡ false → k ≡ 0 → none ≡ firstCost P k s
   unfolding firstCost
   first-out e h = rw (eq-eqb k 0 h, e) refl
 
-module _ {P : Plan} {zs : List ℤ} {dst free k s : ℕ} {g : Shape} {ws : List ℕ} (a : FirstReady P zs dst free k s g ws) (c : ℕ) (is : c ≡ firstCost P k s) {w1 : List ℕ} (m1 : Made (λ (j : ℕ). flat c) ws w1 free (g .levels)) where
-  acc-first : Curve 0 1 (g .base) (g .levels) w1 free (λ (j : ℕ). c)
+module _ {P : Plan} {zs : List ℤ} {dst free k s : ℕ} {g : Shape} {ws : List ℕ} (a : FirstReady P zs dst free k s g ws) (c : ℕ) (is : c ≡ firstCost P k s) {w1 : List ℕ} (m1 : Made (λ (j : ℕ). flat c 0) ws w1 free (g .levels)) where
+  acc-first : Curve 0 1 (g .base) (g .levels) w1 free (λ (j : ℕ). lex c 0)
   unfolding firstCost
-  acc-first = curve-flat (go (inSet (P .start) s && eqb k 0) is) (omega (arith, a .room, a .task .shape .levels)) m1
+  acc-first =
+      curve-flat (go (inSet (P .start) s && eqb k 0) is) (omega (arith, a .room, a .task .shape .levels)) (record { kept = m1 .kept; formed = m1 .formed; is = λ j h. m1 .is j h ∙ sym (levelled-is c 0 (omega arith)) })
     where
-      go : (b : Bool) → c ≡ cond b 0 noCost → (c ≡ none) ⊎ (c < 1)
-      go true e = inr (omega arith)
-      go false e = inl e
+      go : (b : Bool) → c ≡ cond b 0 none → Bounded 0 1 (lex c 0)
+      go true e = inr (omega arith, omega arith)
+      go false e = inl (omega arith)
 
   pub first-ready : {u : ℕ} → (131072 ≤ u) × (u < 196608)
-      → ((Apart free dst (4 * g .levels) × (dst + 4 * g .levels ≤ length w1)) × ((((131072 ≤ u) × (u < 196608)) × ((1 < 256) × (g .base + g .levels ≤ 196608))) × (Limits 1048576 18014398509481984 (g .base) (g .levels) × Sound 18014398509481984 (g .base) (g .levels) w1 free)))
+      → ((Apart free dst (4 * g .levels) × (dst + 4 * g .levels ≤ length w1)) × ((((131072 ≤ u) × (u < 196608)) × ((1 < 256) × (g .base + g .levels ≤ 196608))) × (Limits most 18014398509481984 (g .base) (g .levels) × Sound most 18014398509481984 (g .base) (g .levels) w1 free)))
   first-ready h = (
     (inr (omega (arith, a .under, a .task .shape .levels)), omega (arith, a .under, a .room, a .task .shape .levels, m1 .kept .size)),
-    ((h, (omega arith, omega (arith, a .task .shape .base, a .task .shape .levels, places-to (a .task)))), (limits (a .task) 1048576 18014398509481984 (omega arith) (omega arith), curve-costs (curve-wider 1048576 18014398509481984 (omega arith) (omega arith) acc-first))),
+    ((h, (omega arith, omega (arith, a .task .shape .base, a .task .shape .levels, places-to (a .task)))), (limits (a .task) most 18014398509481984 (omega arith) (omega arith), curve-costs (curve-wider most 18014398509481984 (omega arith) (omega arith) acc-first))),
   )
 
   module _ (u : ℕ) (at : pos u ≡ getD zs 0 (pos 0) +ℤ pos 163840) {w2 : List ℕ} (m2 : WithLoss 1 u (g .base) (g .levels) w1 w2 free dst) where
-    value-first : (j : ℕ) → raise c (1 * (far u (g .base + j) * far u (g .base + j))) ≡ firstTable P zs k s j
+    value-first : (j : ℕ) → raise (lex c 0) (unit * (1 * (far u (g .base + j) * far u (g .base + j)))) ≡ firstTable P zs k s j
     unfolding firstTable firstCost raise
     value-first j =
         let z : 1 * (far u (g .base + j) * far u (g .base + j)) ≡ lossAt zs 0 (P .lo +ℤ pos j) = omega (arith, loss-place zs 0 (P .lo) u (g .base) at (base-place (a .task)) j) in
         rw (is, z) (go (inSet (P .start) s && eqb k 0))
       where
-        go : (b : Bool) → cond (ltb (cond b 0 noCost) noCost) (cond b 0 noCost + lossAt zs 0 (P .lo +ℤ pos j)) (cond b 0 noCost) ≡ cond b (lossAt zs 0 (P .lo +ℤ pos j)) noCost
+        go : (b : Bool) → cond (ltb (lex (cond b 0 none) 0) noCost) (lex (cond b 0 none) 0 + unit * lossAt zs 0 (P .lo +ℤ pos j)) (lex (cond b 0 none) 0) ≡ cond b (unit * lossAt zs 0 (P .lo +ℤ pos j)) noCost
         go true = omega arith
         go false = refl
 
@@ -322,5 +325,5 @@ module _ {P : Plan} {zs : List ℤ} {dst free k s : ℕ} {g : Shape} {ws : List 
       };
       list =
           of-shape (a .task .shape)
-          (curve-wider 1 (1 * stepMost) (omega arith) (omega arith) (curve-as (firstTable P zs k s) (λ j h. value-first j) (m2 .curve 0 1 _ (limits (a .task) _ _ (omega arith) (omega arith)) acc-first)));
+          (curve-wider (1 * countMost) (1 * readingMost) (omega arith) (omega arith) (curve-as (firstTable P zs k s) (λ j h. value-first j) (m2 .curve 0 1 _ (limits (a .task) _ _ (omega arith) (omega arith)) acc-first)));
     }

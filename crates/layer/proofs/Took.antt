@@ -9,10 +9,10 @@ use native.Mathlib.Omega.{arith}
 use native.Mathlib.Nat.{mul-le-mul, mul-le-mul-left}
 use Rattle.plan.specs.declared.Edge.{Edge}
 use Rattle.plan.specs.declared.Label.{Label}
-use Rattle.model.specs.Model.{penalty}
+use Rattle.model.specs.Model.{penalty, changeOf}
 use Rattle.model.specs.Labels.{countBefore, counts}
 use Rattle.model.specs.Index.{noCost, edgeMin}
-use Rattle.model.specs.Held.{penaltyMost, penalty-most, Table}
+use Rattle.model.specs.Held.{penaltyMost, penalty-most, change-low, Table}
 use Rattle.labels.specs.Boundary.{leadsFrom}
 use Rattle.curve.specs.Curve.{Curve, Limits, curve-as, curve-most}
 use Rattle.edges.specs.Edge.{Ready, Taken, spared-refl}
@@ -26,19 +26,19 @@ module _ (o : Option Label) (t : ℕ) (x : Edge) (k s cur : ℕ) (g : Shape) whe
   took-not ws acc next work e = record {
     place = inl refl;
     spared = spared-refl _ _ _ _ ws;
-    curve = λ A B C F H l h c f. curve-as (λ (j : ℕ). min (F j) (offered o t x k s (g .levels) H j)) (λ j i. rw e (omega (arith, curve-most l c j i))) c;
+    curve = λ A B C D F H l d h c f. curve-as (λ (j : ℕ). min (F j) (offered o t x k s (g .levels) H j)) (λ j i. rw e (omega (arith, curve-most l c j i))) c;
   }
 
   pub took-so : {ws ws′ : List ℕ} {acc next work r : ℕ} → leadsFrom o t x k s ≡ true → (f pen : ℕ) → f ≡ source o t x k cur g → pen ≡ penalty (x .class)
-      → Taken (edgeMin (g .levels) (x .kind)) pen (g .base) (g .levels) ws ws′ f acc next work r → TookOne o t x k s cur g ws ws′ acc next work r
+      → Taken (edgeMin (g .levels) (x .kind)) pen (changeOf (x .kind)) (g .base) (g .levels) ws ws′ f acc next work r → TookOne o t x k s cur g ws ws′ acc next work r
   unfolding offered
   took-so {ws} e f pen ef ep m = record {
     place = m .place;
     spared = m .spared;
-    curve = λ A B C F H l h c d.
+    curve = λ A B C D F H l n h c d.
         curve-as (λ (j : ℕ). min (F j) (offered o t x k s (g .levels) H j)) (λ j i. rw (e, ep) refl)
-        (m .curve A B C F (H (countBefore o t (x .kind) k) (x .from)) l (omega (arith, ep, penalty-most (x .class))) c
-        (subst (λ (p : ℕ). Curve A C (g .base) (g .levels) ws p (H (countBefore o t (x .kind) k) (x .from))) (sym ef) (d e)));
+        (m .curve A B C D F (H (countBefore o t (x .kind) k) (x .from)) l (omega (arith, change-low (x .kind))) (omega (arith, ep, penalty-most (x .class))) c
+        (subst (λ (p : ℕ). Curve D C (g .base) (g .levels) ws p (H (countBefore o t (x .kind) k) (x .from))) (sym ef) (d e)));
   }
 
 -- a list's place is small

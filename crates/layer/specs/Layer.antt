@@ -11,9 +11,13 @@ use Rattle.model.specs.Ends.{lossMost, tableAt}
 use Rattle.curve.specs.Curve.{Curve}
 use Rattle.layer.specs.declared.Shape.{Shape}
 
--- the most that a reading and the boundary before it cost
-abbrev pub stepMost : ℕ
-stepMost = lossMost + penaltyMost
+-- the most that a reading and the boundary before it cost; and the most that they add to what is counted, the weight of a reading (at most 255, ticket 10) and a
+-- change
+abbrev pub readingMost : ℕ
+readingMost = lossMost + penaltyMost
+
+abbrev pub countMost : ℕ
+countMost = 256
 
 -- the place of the lowest level
 unfoldable pub baseOf : Plan → ℕ
@@ -50,7 +54,7 @@ tempWords L = 12 * L
 
 -- a layer of t readings with the numbers H stands at o: the lists of the counts that are used
 pub record LayerOf (P : Plan) (t : ℕ) (H : Table) (ws : List ℕ) (o : ℕ) : Type 0 where
-  pub list : (k s : ℕ) → k < usedAt P t → s < P .states → Curve t (t * stepMost) (baseOf P) (width P) ws (listAt o (P .states) (width P) k s) (H k s)
+  pub list : (k s : ℕ) → k < usedAt P t → s < P .states → Curve (t * countMost) (t * readingMost) (baseOf P) (width P) ws (listAt o (P .states) (width P) k s) (H k s)
 
 -- the layer of the search after t readings
 abbrev pub Layer : Plan → List ℤ → ℕ → List ℕ → ℕ → Type 0

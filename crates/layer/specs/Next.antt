@@ -12,13 +12,13 @@ use Rattle.plan.specs.declared.Plan.{Plan}
 use Rattle.plan.specs.declared.Label.{Label}
 use Rattle.model.specs.Model.{width, inSet}
 use Rattle.model.specs.Labels.{labelOn, counts}
-use Rattle.model.specs.Index.{noCost}
+use Rattle.quadratic.specs.Quad.{none}
 use Rattle.model.specs.Held.{Table}
 use Rattle.model.specs.Tables.{Ready}
 use Rattle.curve.specs.Curve.{Curve}
 use Rattle.edges.specs.Edge.{Off}
 use Rattle.layer.specs.declared.Shape.{Shape}
-use Rattle.layer.specs.Layer.{tempWords, stepMost, baseOf, placeMost, listAt, layerWords, ShapeOf, LayerOf, Sources}
+use Rattle.layer.specs.Layer.{tempWords, readingMost, countMost, baseOf, placeMost, listAt, layerWords, ShapeOf, LayerOf, Sources}
 
 -- a plan and a record that no number before 14 refuses, and their shape
 pub record Task (P : Plan) (zs : List ℤ) (g : Shape) : Type 0 where
@@ -48,11 +48,11 @@ pub record NextReady (P : Plan) (zs : List ℤ) (o : Option Label) (t cur moved 
 -- list (k, s) of a layer of one reading more than t, with the numbers H, stands at dst
 pub record NextList (P : Plan) (t : ℕ) (H : Table) (dst free k s : ℕ) (ws ws′ : List ℕ) : Type 0 where
   pub beside : Beside dst free (width P) ws ws′
-  pub list : Curve (suc t) (suc t * stepMost) (baseOf P) (width P) ws′ dst (H k s)
+  pub list : Curve (suc t * countMost) (suc t * readingMost) (baseOf P) (width P) ws′ dst (H k s)
 
 -- what the first reading's loss is added to
 unfoldable pub firstCost : Plan → ℕ → ℕ → ℕ
-firstCost P k s = cond (inSet (P .start) s && eqb k 0) 0 noCost
+firstCost P k s = cond (inSet (P .start) s && eqb k 0) 0 none
 
 -- what is asked before list (k, s) of the first layer is made at dst
 pub record FirstReady (P : Plan) (zs : List ℤ) (dst free k s : ℕ) (g : Shape) (ws : List ℕ) : Type 0 where
@@ -68,7 +68,7 @@ pub record FirstReady (P : Plan) (zs : List ℤ) (dst free k s : ℕ) (g : Shape
 pub record Lists (Q : ℕ → ℕ → Type 0) (P : Plan) (t : ℕ) (H : Table) (o free : ℕ) (ws ws′ : List ℕ) : Type 0 where
   pub size : length ws′ ≡ length ws
   pub word : (i : ℕ) → ((k s : ℕ) → Q k s → Off (listAt o (P .states) (width P) k s) (width P) i) → (i < free) ⊎ (free + tempWords (width P) ≤ i) → getD ws′ i 0 ≡ getD ws i 0
-  pub list : (k s : ℕ) → Q k s → Curve t (t * stepMost) (baseOf P) (width P) ws′ (listAt o (P .states) (width P) k s) (H k s)
+  pub list : (k s : ℕ) → Q k s → Curve (t * countMost) (t * readingMost) (baseOf P) (width P) ws′ (listAt o (P .states) (width P) k s) (H k s)
 
 -- one list, the first n of a count, the first n counts
 abbrev pub One : ℕ → ℕ → ℕ → ℕ → Type 0

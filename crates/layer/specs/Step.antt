@@ -5,6 +5,7 @@ use mathlib.Core.Option.{Option}
 use mathlib.Core.Bool.{true, cond}
 use Prim.Native.Nat.{ℕ, _+_, _-_, _*_, _≤_, _<_, min}
 use lib.ListN.{length, getD}
+use Rattle.integers.specs.Pairs.{lex}
 use Rattle.plan.specs.declared.Plan.{Plan}
 use Rattle.plan.specs.declared.Edge.{Edge}
 use Rattle.plan.specs.declared.Label.{Label}
@@ -16,7 +17,7 @@ use Rattle.model.specs.Index.{noCost, edgeMin}
 use Rattle.model.specs.Held.{raise, penaltyMost, Table, leadsAt, byEdge, minBelow}
 use Rattle.labels.specs.Boundary.{leadsFrom, leads-at}
 use Rattle.curve.specs.Curve.{Curve, Limits}
-use Rattle.edges.specs.Edge.{Ready, OneOf, Spared, Hand, Sound}
+use Rattle.edges.specs.Edge.{most, Ready, OneOf, Spared, Hand, Sound}
 use Rattle.layer.specs.declared.Shape.{Shape}
 use Rattle.layer.specs.Layer.{Shape-small, placeMost, listAt, fromPlace}
 
@@ -31,7 +32,7 @@ sourceOf o t x k cur moved g = source o t x k (fromPlace (changeOf (x .kind)) cu
 -- what the edge offers at list (k, s) and index j, over the table H
 unfoldable pub offered : Option Label → ℕ → Edge → ℕ → ℕ → ℕ → Table → ℕ → ℕ
 offered o t x k s L H j =
-    cond (leadsFrom o t x k s) (raise (edgeMin L (x .kind) (H (countBefore o t (x .kind) k) (x .from)) j) (penalty (x .class))) noCost
+    cond (leadsFrom o t x k s) (raise (edgeMin L (x .kind) (H (countBefore o t (x .kind) k) (x .from)) j) (lex (penalty (x .class)) (changeOf (x .kind)))) noCost
 
 pub offered-by : (P : Plan) (t : ℕ) (H : Table) (k s j e : ℕ) → offered (labelOn P t) t (edgeAt P e) k s (width P) H j ≡ byEdge P t H k s j e
 unfolding offered byEdge leadsAt fromCount leadsFrom
@@ -43,7 +44,7 @@ pub record MayTake (o : Option Label) (t : ℕ) (x : Edge) (k s cur : ℕ) (g : 
   pub boundary : t < 65536
   pub count : k < counts
   pub place : cur ≤ placeMost
-  pub limits : Limits 1048576 18014398509481984 (g .base) (g .levels)
+  pub limits : Limits most 18014398509481984 (g .base) (g .levels)
   pub before : leadsFrom o t x k s ≡ true → countBefore o t (x .kind) k < counts
   pub from : x .from < 8
   pub gap : gapOf (x .kind) ≤ 1023
@@ -53,8 +54,8 @@ pub record MayTake (o : Option Label) (t : ℕ) (x : Edge) (k s cur : ℕ) (g : 
 pub record TookOne (o : Option Label) (t : ℕ) (x : Edge) (k s cur : ℕ) (g : Shape) (ws ws′ : List ℕ) (acc next work r : ℕ) : Type 0 where
   pub place : OneOf acc next r
   pub spared : Spared acc next work (g .levels) ws ws′
-  pub curve : (A B C : ℕ) (F : ℕ → ℕ) (H : Table) → Limits A B (g .base) (g .levels) → C + penaltyMost ≤ B → Curve A B (g .base) (g .levels) ws acc F
-      → (leadsFrom o t x k s ≡ true → Curve A C (g .base) (g .levels) ws (source o t x k cur g) (H (countBefore o t (x .kind) k) (x .from)))
+  pub curve : (A B C D : ℕ) (F : ℕ → ℕ) (H : Table) → Limits A B (g .base) (g .levels) → D < A → C + penaltyMost ≤ B → Curve A B (g .base) (g .levels) ws acc F
+      → (leadsFrom o t x k s ≡ true → Curve D C (g .base) (g .levels) ws (source o t x k cur g) (H (countBefore o t (x .kind) k) (x .from)))
       → Curve A B (g .base) (g .levels) ws′ r (λ (j : ℕ). min (F j) (offered o t x k s (g .levels) H j))
 
 -- ---- all edges
@@ -73,20 +74,20 @@ pub record EdgesReady (o : Option Label) (t : ℕ) (es : List Edge) (n k s cur m
   pub count : k < counts
   pub place : cur ≤ placeMost
   pub place-moved : moved ≤ placeMost
-  pub limits : Limits 1048576 18014398509481984 (g .base) (g .levels)
+  pub limits : Limits most 18014398509481984 (g .base) (g .levels)
   pub few : n ≤ 32
   pub some : 0 < g .levels
-  pub so-far : Sound 18014398509481984 (g .base) (g .levels) ws first
+  pub so-far : Sound most 18014398509481984 (g .base) (g .levels) ws first
   pub from : (e : ℕ) → e < n → edgeOf es e .from < 8
   pub gap : (e : ℕ) → e < n → gapOf (edgeOf es e .kind) ≤ 1023
   pub before : (e : ℕ) → e < n → leadsFrom o t (edgeOf es e) k s ≡ true → countBefore o t (edgeOf es e .kind) k < counts
   pub hand : (e : ℕ) → e < n → leadsFrom o t (edgeOf es e) k s ≡ true → Hand first second work (sourceOf o t (edgeOf es e) k cur moved g) (g .levels) (length ws)
-  pub sound : (e : ℕ) → e < n → leadsFrom o t (edgeOf es e) k s ≡ true → Sound (18014398509481984 - penaltyMost) (g .base) (g .levels) ws (sourceOf o t (edgeOf es e) k cur moved g)
+  pub sound : (e : ℕ) → e < n → leadsFrom o t (edgeOf es e) k s ≡ true → Sound (most - 1) (18014398509481984 - penaltyMost) (g .base) (g .levels) ws (sourceOf o t (edgeOf es e) k cur moved g)
 
 -- the least over the first n edges stands at r
 pub record TookEdges (o : Option Label) (t : ℕ) (es : List Edge) (n k s cur moved : ℕ) (g : Shape) (ws ws′ : List ℕ) (first second work r : ℕ) : Type 0 where
   pub place : OneOf first second r
   pub spared : Spared first second work (g .levels) ws ws′
-  pub curve : (A B C : ℕ) (F : ℕ → ℕ) (T : ℕ → Table) → Limits A B (g .base) (g .levels) → C + penaltyMost ≤ B → Curve A B (g .base) (g .levels) ws first F
-      → ((e : ℕ) → e < n → leadsFrom o t (edgeOf es e) k s ≡ true → Curve A C (g .base) (g .levels) ws (sourceOf o t (edgeOf es e) k cur moved g) (T (changeOf (edgeOf es e .kind)) (countBefore o t (edgeOf es e .kind) k) (edgeOf es e .from)))
+  pub curve : (A B C D : ℕ) (F : ℕ → ℕ) (T : ℕ → Table) → Limits A B (g .base) (g .levels) → D < A → C + penaltyMost ≤ B → Curve A B (g .base) (g .levels) ws first F
+      → ((e : ℕ) → e < n → leadsFrom o t (edgeOf es e) k s ≡ true → Curve D C (g .base) (g .levels) ws (sourceOf o t (edgeOf es e) k cur moved g) (T (changeOf (edgeOf es e .kind)) (countBefore o t (edgeOf es e .kind) k) (edgeOf es e .from)))
       → Curve A B (g .base) (g .levels) ws′ r (λ (j : ℕ). min (F j) (leastOffered o t es n k s (g .levels) T j))

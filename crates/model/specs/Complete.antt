@@ -222,7 +222,7 @@ module _ (P : Plan) (zs : List ℤ) where
 
   not-lower : (g g′ : Seg) → readings g ≡ readings g′ → Follows P g → Follows P g′ → lowerTest (key P zs g) (key P zs g′) ≡ false → Before g′ g
   unfolding key order
-  not-lower g g′ n f f′ h = go (lower-no (key P zs g) (key P zs g′) (ap (λ (k : ℕ). suc (suc (suc k))) (back-length g g′ n)) h)
+  not-lower g g′ n f f′ h = go (lower-no (key P zs g) (key P zs g′) (ap (λ (k : ℕ). suc (suc (suc (suc k)))) (back-length g g′ n)) h)
     where
       go : (key P zs g ≡ key P zs g′) ⊎ Lower (key P zs g′) (key P zs g) → Before g′ g
       go (inl e) = let o : order P g ≡ order P g′ = cc in inl (sym (order-one P g g′ f f′ o))

@@ -1,13 +1,13 @@
 -- The results from the last layer as code holds it. What code has to show, once no number of `Refusals` refuses:
 -- `Holding` of the layer after all readings. A point: the least over the counts (`point-by`). A search: the least end, none
 -- of them (`none-by`) or the lowest state and level that has it (`found-by`); then for each step back the lowest edge and level (`walk-on`, and
--- `earlier-value` for the next step), down to `walk-first`. Each law ends in `resultOf`. Assumes nothing.
+-- `earlier-value` for the next step), down to `walk-first`. Each law ends in `resultOf`; what is reported is the cost of a number. Assumes nothing.
 use mathlib.Core.Path.{_≡_, refl, sym, _∙_, ap}
 use mathlib.Core.Logic.{_⊎_, inl, inr}
 use mathlib.Core.Option.{Option, none, some, Option·map}
 use mathlib.Core.List.{List, [], _∷_, reverse}
 use mathlib.Core.Bool.{Bool, true, false, cond}
-use Prim.Native.Nat.{ℕ, zero, suc, _+_, _*_, _≤_, _<_}
+use Prim.Native.Nat.{ℕ, zero, suc, _+_, _*_, _/_, _≤_, _<_}
 use native.Mathlib.Omega.{arith}
 use native.Mathlib.Nat.{mul-le-mul}
 use lib.IntN.{ℤ, pos, negsuc, natAbs, _+ℤ_, _-ℤ_}
@@ -15,12 +15,13 @@ use lib.ListN.{length, getD}
 use lib.Signed.{leZ, mag}
 use Rattle.integers.specs.Rep as R
 use Rattle.integers.specs.Rep.{iz, _⊖_}
+use Rattle.integers.specs.Pairs.{unit}
 use Rattle.plan.specs.declared.Plan.{Plan}
 use Rattle.model.specs.Cost.{Cost, value}
 use Rattle.model.specs.Bools.{and-yes}
 use Rattle.model.specs.Grid.{leZ-nat, abs-is}
 use Rattle.model.specs.Least.{leastBelow, given, firstHit, first-hit-is, Upto}
-use Rattle.model.specs.Model.{edgeAt, width, penaltyOf, inSet, onGrid, lossAt, square}
+use Rattle.model.specs.Model.{edgeAt, width, inSet, onGrid, lossAt, square}
 use Rattle.model.specs.Checked.{Checked, searchNumber, pointNumber, accepted, accepted-point}
 use Rattle.model.specs.Result.{whole, point, found, refused, foundSeg, foundCost, resultOf}
 use Rattle.model.specs.Demand3.{unless-none}
@@ -31,8 +32,8 @@ use Rattle.model.specs.Opt.{opt, before, pointBest, pointCost}
 use Rattle.model.specs.Answer.{endCost, leastEnd, answer, trace, trace-right, way-is}
 use Rattle.model.specs.Run.{run, joins, runs, runNumbers, numbers}
 use Rattle.model.specs.Runs.{wayBack, walkBack, walk-step, walk-runs, runs-from, backFrom}
-use Rattle.model.specs.Index.{noCost, held, held-some, some-held, none-held, Permitted, permitted-yes, yes-permitted}
-use Rattle.model.specs.Held.{penaltyMost, Table, edgeLeast, HoldingOf, Holding, minBelow, held-least, held-given, least-ext, fromCount, leadsAt, leads-count, step-back, firstTable, nextTable, first-holding, next-holding}
+use Rattle.model.specs.Index.{pairOf, noCost, held, reported, pair-one, held-some, some-held, none-held, held-value, Permitted, permitted-yes, yes-permitted}
+use Rattle.model.specs.Held.{edgeWeight, edgeMost, Table, edgeLeast, HoldingOf, Holding, minBelow, held-least, held-given, least-ext, fromCount, leadsAt, leads-count, step-back, firstTable, nextTable, first-holding, next-holding}
 
 -- ---- the losses of 16-bit numbers
 
@@ -53,8 +54,9 @@ far z m lo hi hz hl hh p q = go (abs-is (z -ℤ m)) (signed-16 z hz) (signed-16 
     go (inl x) a b c e f g = omega arith
     go (inr x) a b c e f g = omega arith
 
+-- times a weight of at most 255, as ticket 10 of the change requests (02) has it
 abbrev pub lossMost : ℕ
-lossMost = 65535 * 65535
+lossMost = 255 * (65535 * 65535)
 
 pub losses-low : (P : Plan) (zs : List ℤ) → mag (P .lo) < 32768 → mag (P .hi) < 32768 → ((t : ℕ) → mag (getD zs t (pos 0)) < 32768)
     → (t : ℕ) (m : ℤ) → onGrid P m ≡ true → lossAt zs t m ≤ lossMost
@@ -62,10 +64,14 @@ unfolding lossAt square onGrid
 losses-low P zs hl hh hz t m on =
     let (a, b) = and-yes (leZ (P .lo) m) (leZ m (P .hi)) on in
     let d = far (getD zs t (pos 0)) m (P .lo) (P .hi) (hz t) hl hh a b in
-    mul-le-mul d d
+    omega (arith, mul-le-mul d d)
+
+-- the most that a reading and the boundary before it add to a number
+abbrev pub stepMost : ℕ
+stepMost = unit * lossMost + edgeMost
 
 -- every record of at most 4,096 readings leaves room below the number that means none
-pub room : (t : ℕ) → t ≤ 4096 → suc t * (lossMost + penaltyMost) < noCost
+pub room : (t : ℕ) → t ≤ 4096 → suc t * stepMost < noCost
 room t h = omega arith
 
 -- ---- the cost at a point
@@ -99,18 +105,14 @@ module _ (P : Plan) (F : Node → Option Cost) (H : Table) (hold : HoldingOf P F
       ∙ least-ext (P .states) _ _ (λ s hs. held-least (width P) (λ j. endAt P H s j) ∙ least-ext (width P) _ _ (λ j hj. end-held-of s j hs hj))
 
 module _ (P : Plan) (zs : List ℤ) (H : Table) (hold : Holding P zs (length zs) H) where
-  pub point-held : Checked P → (s j : ℕ) → s < P .states → j < width P → pointCost P zs s (P .lo +ℤ pos j) ≡ held (pointAt (usedAt P (length zs)) H s j)
-  unfolding pointCost pointBest pointAt value
+  pub point-held : Checked P → (s j : ℕ) → s < P .states → j < width P → pointCost P zs s (P .lo +ℤ pos j) ≡ reported (pointAt (usedAt P (length zs)) H s j)
+  unfolding pointCost pointBest pointAt
   point-held ch s j hs hj =
       ap (Option·map value) (sym (held-least n (λ k. H k s j) ∙ least-ext n _ _ (λ k hk. hold .at k s j (omega (arith, used-most (labelOn P (length zs)))) hs hj)))
-      ∙ same (held (minBelow n (λ k. H k s j)))
+      ∙ held-value (minBelow n (λ k. H k s j))
     where
       n : ℕ
       n = usedAt P (length zs)
-
-      same : (o : Option Cost) → Option·map (λ (x : ℕ). x) o ≡ o
-      same none = refl
-      same (some x) = refl
 
   end-held : (s j : ℕ) → s < P .states → j < width P → held (endAt P H s j) ≡ endCost P zs s j
   unfolding endCost
@@ -127,14 +129,14 @@ module _ (P : Plan) (zs : List ℤ) (H : Table) (hold : Holding P zs (length zs)
   -- the lowest state, then the lowest level, that has the least
   pub end-found : (s j : ℕ) → s < P .states → j < width P → leastEndAt P H < noCost → endAt P H s j ≡ leastEndAt P H
       → ((s′ j′ : ℕ) → s′ < P .states → j′ < width P → endAt P H s′ j′ ≡ leastEndAt P H → Upto s j s′ j′)
-      → answer P zs ≡ some (leastEndAt P H, trace P zs (length zs) (node 0 s (P .lo +ℤ pos j)))
+      → answer P zs ≡ some (leastEndAt P H / unit, trace P zs (length zs) (node 0 s (P .lo +ℤ pos j)))
   unfolding answer value
   end-found s j hs hj low e first =
-      let c : ℕ = leastEndAt P H in
-      let p : leastEnd P zs ≡ some c = sym least-end ∙ some-held c low in
-      let q : endCost P zs s j ≡ some c = sym (end-held s j hs hj) ∙ ap held e ∙ some-held c low in
+      let c : Cost = pairOf (leastEndAt P H) in
+      let p : leastEnd P zs ≡ some c = sym least-end ∙ some-held (leastEndAt P H) low in
+      let q : endCost P zs s j ≡ some c = sym (end-held s j hs hj) ∙ ap held e ∙ some-held (leastEndAt P H) low in
       let h : firstHit (P .states) (width P) (endCost P zs) c ≡ some (s, j) = first-hit-is (P .states) (width P) (endCost P zs) c s j hs hj q
-      (λ s′ j′ hs′ hj′ r. first s′ j′ hs′ hj′ (held-some (endAt P H s′ j′) c (end-held s′ j′ hs′ hj′ ∙ r) .1)) in
+      (λ s′ j′ hs′ hj′ r. first s′ j′ hs′ hj′ (pair-one (endAt P H s′ j′) (leastEndAt P H) (held-some (endAt P H s′ j′) c (end-held s′ j′ hs′ hj′ ∙ r) .1))) in
       rw p (rw h refl)
 
 -- ---- the runs, last one first, by the walk back
@@ -153,13 +155,13 @@ numbers-at P zs n v c h p = ap numbers (runs-at P zs n v c h p)
 -- ---- one step of the walk back, in held numbers
 
 module _ (P : Plan) (zs : List ℤ) (ch : Checked P) (W : ℕ) (losses : (t : ℕ) (m : ℤ) → onGrid P m ≡ true → lossAt zs t m ≤ W)
-    (t : ℕ) (H : Table) (hold : Holding P zs (suc t) H) (space : suc (suc t) * (W + penaltyMost) < noCost)
-    (k s j : ℕ) (hk : k < counts) (hs : s < P .states) (hj : j < width P) (c : ℕ) (value-is : opt P zs (suc (suc t)) (node k s (P .lo +ℤ pos j)) ≡ some c) where
+    (t : ℕ) (H : Table) (hold : Holding P zs (suc t) H) (space : suc (suc t) * (unit * W + edgeMost) < noCost)
+    (k s j : ℕ) (hk : k < counts) (hs : s < P .states) (hj : j < width P) (c : ℕ) (value-is : opt P zs (suc (suc t)) (node k s (P .lo +ℤ pos j)) ≡ some (pairOf c)) where
   abbrev before-count : ℕ → ℕ
   before-count e = fromCount P (suc t) e k
 
   abbrev rest : ℕ → ℕ
-  rest e = penaltyOf P e + lossAt zs (suc t) (P .lo +ℤ pos j)
+  rest e = edgeWeight P e + unit * lossAt zs (suc t) (P .lo +ℤ pos j)
 
   -- what is found one reading earlier
   abbrev heldAt : ℕ → ℕ → ℕ
@@ -180,7 +182,7 @@ module _ (P : Plan) (zs : List ℤ) (ch : Checked P) (W : ℕ) (losses : (t : �
 
     step-is : wayBack P zs t (node k s (P .lo +ℤ pos j)) ≡ some (e, i)
     step-is =
-        way-is P zs t (node k s (P .lo +ℤ pos j)) c value-is
+        way-is P zs t (node k s (P .lo +ℤ pos j)) (pairOf c) value-is
         ∙ step-back P zs ch W losses (suc t) (omega arith) H hold space k s j hk hs hj c value-is e i he hi meets lowest-edge
         (yes-permitted (edgeAt P e .kind) i j permitted) least (λ i′ h a. lowest-level i′ h (permitted-yes (edgeAt P e .kind) i′ j a))
 
@@ -193,7 +195,7 @@ module _ (P : Plan) (zs : List ℤ) (ch : Checked P) (W : ℕ) (losses : (t : �
     pub earlier-count : before-count e < counts
     earlier-count = leads-count P (suc t) e k s (meets .0)
 
-    pub earlier-value : opt P zs (suc t) earlier ≡ some (offers e)
+    pub earlier-value : opt P zs (suc t) earlier ≡ some (pairOf (offers e))
     earlier-value = sym (hold .at (before-count e) (edgeAt P e .from) i earlier-count (ch .edge e he .from-below) hi) ∙ ap held least ∙ some-held (offers e) (meets .1)
 
 -- the first reading's run
@@ -224,23 +226,23 @@ module _ (P : Plan) (zs : List ℤ) (accepts : searchNumber P (length zs) ≡ 0)
     abbrev last-node : Node
     last-node = node 0 s (P .lo +ℤ pos j)
 
-    pub last-value : opt P zs (length zs) last-node ≡ some (leastEndAt P H)
+    pub last-value : opt P zs (length zs) last-node ≡ some (pairOf (leastEndAt P H))
     unfolding endAt
     last-value = go (inSet (P .end) s) best
       where
-        go : (b : Bool) → cond b (H 0 s j) noCost ≡ leastEndAt P H → opt P zs (length zs) last-node ≡ some (leastEndAt P H)
+        go : (b : Bool) → cond b (H 0 s j) noCost ≡ leastEndAt P H → opt P zs (length zs) last-node ≡ some (pairOf (leastEndAt P H))
         go true e = sym (hold .at 0 s j (omega arith) hs hj) ∙ ap held e ∙ some-held (leastEndAt P H) low
         go false e = absurd (omega arith)
 
-    pub found-by : resultOf P zs whole ≡ found (leastEndAt P H) (numbers (reverse (walkBack P zs (length zs) (length zs) last-node)))
+    pub found-by : resultOf P zs whole ≡ found (leastEndAt P H / unit) (numbers (reverse (walkBack P zs (length zs) (length zs) last-node)))
     unfolding searched
     found-by =
         sym (searched-right P zs whole) ∙ unless-none (searchNumber P (length zs)) (foundSeg P (answer P zs)) accepts
         ∙ ap (foundSeg P) (end-found P zs H hold s j hs hj low best lowest)
-        ∙ ap (found (leastEndAt P H)) (numbers-at P zs (length zs) last-node (leastEndAt P H) (accepted P (length zs) accepts .some-readings) last-value)
+        ∙ ap (found (leastEndAt P H / unit)) (numbers-at P zs (length zs) last-node (pairOf (leastEndAt P H)) (accepted P (length zs) accepts .some-readings) last-value)
 
 pub point-by : (P : Plan) (zs : List ℤ) (s j : ℕ) → pointNumber P (length zs) s (P .lo +ℤ pos j) ≡ 0 → j < width P → (H : Table) → Holding P zs (length zs) H
-    → resultOf P zs (point s (P .lo +ℤ pos j)) ≡ foundCost (held (pointAt (usedAt P (length zs)) H s j))
+    → resultOf P zs (point s (P .lo +ℤ pos j)) ≡ foundCost (reported (pointAt (usedAt P (length zs)) H s j))
 unfolding searched
 point-by P zs s j n hj H hold =
     let a = accepted-point P (length zs) s (P .lo +ℤ pos j) n in

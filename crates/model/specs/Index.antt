@@ -4,9 +4,9 @@
 -- that the model permits. Assumes nothing.
 use mathlib.Core.Path.{_≡_, refl, sym, _∙_, ap}
 use mathlib.Core.Logic.{_⊎_, inl, inr}
-use mathlib.Core.Option.{Option, none, some, Option·some-injective}
+use mathlib.Core.Option.{Option, none, some, Option·map, Option·some-injective}
 use mathlib.Core.Bool.{Bool, true, false, _&&_, not, cond}
-use Prim.Native.Nat.{ℕ, zero, suc, _+_, _-_, _^_, _≤_, _<_, min}
+use Prim.Native.Nat.{ℕ, zero, suc, _+_, _-_, _*_, _/_, _%_, _^_, _≤_, _<_, min}
 use native.Mathlib.Omega.{arith}
 use native.Mathlib.Decide.{decLe, decLt}
 use lib.Dec.{leb, ltb, eqb}
@@ -15,21 +15,30 @@ use lib.IntN.{ℤ, pos, natAbs, _+ℤ_, _-ℤ_}
 use lib.Signed.{leZ, leZ-yes}
 use Rattle.integers.specs.Rep as R
 use Rattle.integers.specs.Rep.{Rep, iz, nz, _⊕_, _⊖_, eqZ, leN, leZof, holds}
+use Rattle.integers.specs.Pairs.{unit, lex}
 use Rattle.plan.specs.declared.Kind.{Kind}
 use Rattle.plan.specs.declared.Kind.the-variants.{Stay, Any, Up, Down, Abs}
-use Rattle.model.specs.Cost.{Cost}
+use Rattle.model.specs.Cost.{Cost, Below, _≼_, value}
 use Rattle.model.specs.Bools.{and-yes, same-test}
 use Rattle.model.specs.Grid.{leZ-true, abs-is, le-index}
 use Rattle.model.specs.Model.{above, permits}
 
 -- ---- what code holds
 
--- a cost of this or more means that there is none
+-- one number stands for a cost and a number of changes
+abbrev pub pairOf : ℕ → Cost
+pairOf v = (v / unit, v % unit)
+
+-- this number or more means that there is none
 abbrev pub noCost : ℕ
-noCost = 2 ^ 60
+noCost = unit * 2 ^ 60
 
 unfoldable pub held : ℕ → Option Cost
-held v = cond (ltb v noCost) (some v) none
+held v = cond (ltb v noCost) (some (pairOf v)) none
+
+-- the cost that is reported for a number
+unfoldable pub reported : ℕ → Option ℕ
+reported v = cond (ltb v noCost) (some (v / unit)) none
 
 -- from index i to the next index j
 unfoldable pub permitsAt : Kind → ℕ → ℕ → Bool
@@ -104,21 +113,67 @@ permits-index (Down g) lo i j = same-test (leZ (lo +ℤ pos j) ((lo +ℤ pos i) 
     (λ h. leZ-true _ _ (leZof (iz lo ⊕ nz j) (iz lo ⊕ nz i ⊖ nz g) (omega (arith, leb-true (j + g) i h))))
 permits-index (Abs g) lo i j = abs-index lo g i j
 
-pub held-some : (v : ℕ) (c : Cost) → held v ≡ some c → (v < noCost) × (v ≡ c)
+-- ---- numbers and pairs
+
+-- numbers are in the order of their pairs
+pub pair-mono : (a b : ℕ) → a ≤ b → pairOf a ≼ pairOf b
+pair-mono a b h = record { le = go (decLt (a / unit) (b / unit)) }
+  where
+    go : Dec (a / unit < b / unit) → Below (pairOf a) (pairOf b)
+    go (yes k) = inl k
+    go (no k) = inr (omega arith, omega arith)
+
+pub pair-back : (a b : ℕ) → pairOf a ≼ pairOf b → a ≤ b
+pair-back a b h = go (h .le)
+  where
+    go : Below (pairOf a) (pairOf b) → a ≤ b
+    go (inl k) = omega arith
+    go (inr (e, k)) = omega arith
+
+pub pair-one : (a b : ℕ) → pairOf a ≡ pairOf b → a ≡ b
+pair-one a b p =
+    let e : a / unit ≡ b / unit = ap (λ (c : Cost). c .0) p in
+    let f : a % unit ≡ b % unit = ap (λ (c : Cost). c .1) p in
+    omega arith
+
+pub pair-is : (v x k : ℕ) → k < unit → v ≡ lex x k → pairOf v ≡ (x, k)
+pair-is v x k h e =
+    let p : v / unit ≡ x = omega arith in
+    let q : v % unit ≡ k = omega arith in
+    λ i. (p i, q i)
+
+pub held-some : (v : ℕ) (c : Cost) → held v ≡ some c → (v < noCost) × (pairOf v ≡ c)
 unfolding held
 held-some v c p = go (ltb v noCost) refl p
   where
-    go : (b : Bool) → ltb v noCost ≡ b → cond b (some v) none ≡ some c → (v < noCost) × (v ≡ c)
-    go true e q = (ltb-true v noCost e, Option·some-injective v c q)
+    go : (b : Bool) → ltb v noCost ≡ b → cond b (some (pairOf v)) none ≡ some c → (v < noCost) × (pairOf v ≡ c)
+    go true e q = (ltb-true v noCost e, Option·some-injective (pairOf v) c q)
     go false e q = let z : _≡_ {A = ℕ} 0 1 = cc in absurd (omega arith)
 
-pub some-held : (v : ℕ) → v < noCost → held v ≡ some v
+pub some-held : (v : ℕ) → v < noCost → held v ≡ some (pairOf v)
 unfolding held
 some-held v h = rw (lt-ltb v noCost h)
 
 pub none-held : (v : ℕ) → noCost ≤ v → held v ≡ none
 unfolding held
 none-held v h = rw (le-ltb v noCost h)
+
+pub reported-some : (v : ℕ) → v < noCost → reported v ≡ some (v / unit)
+unfolding reported
+reported-some v h = rw (lt-ltb v noCost h)
+
+pub reported-none : (v : ℕ) → noCost ≤ v → reported v ≡ none
+unfolding reported
+reported-none v h = rw (le-ltb v noCost h)
+
+-- it is the value of the cost that is held
+pub held-value : (v : ℕ) → Option·map value (held v) ≡ reported v
+unfolding held reported value
+held-value v = go (ltb v noCost)
+  where
+    go : (b : Bool) → Option·map value (cond b (some (pairOf v)) none) ≡ cond b (some (v / unit)) none
+    go true = refl
+    go false = refl
 
 -- ---- prefix and suffix minima
 

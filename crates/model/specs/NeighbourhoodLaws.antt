@@ -2,20 +2,20 @@
 -- comes. For code: an entry by the numbers of `Totals` (`entry-by`), and 16 by those of a search (`table-none-by`, `table-found-by`). Assumes nothing.
 use mathlib.Core.Path.{_≡_, refl, sym, _∙_, ap, subst}
 use mathlib.Core.Logic.{_⊎_, inl, inr}
-use mathlib.Core.Option.{Option, none, some, Option·some-injective}
+use mathlib.Core.Option.{Option, none, some, Option·map, Option·some-injective}
 use mathlib.Core.List.{List, [], _∷_, _++_}
-use mathlib.Core.Bool.{Bool, true, false, cond}
-use Prim.Native.Nat.{ℕ, zero, suc, _+_, _*_, _≤_, _<_, min}
+use mathlib.Core.Bool.{true}
+use Prim.Native.Nat.{ℕ, zero, suc, _≤_, _<_, min}
 use native.Mathlib.Omega.{arith}
 use native.Mathlib.Decide.{decLe, ℕ-discrete}
-use lib.Dec.{ltb, eqb}
+use lib.Dec.{eqb}
 use borrow.Author.Tests.{eqb-true, eq-eqb}
 use lib.IntN.{ℤ, pos, _+ℤ_}
 use lib.ListN.{length, getD, length-append, List·getD-append}
 use lib.Seq.{getD-at}
 use Rattle.plan.specs.declared.Plan.{Plan}
 use Rattle.plan.specs.Build.{planNumber}
-use Rattle.model.specs.Cost.{Cost, value}
+use Rattle.model.specs.Cost.{Cost, _≼_, ≼-trans, value, value-mono}
 use Rattle.model.specs.Segmentation.{Seg, readings, lastLevel}
 use Rattle.model.specs.Rank.{rank, rank-value}
 use Rattle.model.specs.Model.{width, above, inSet, lastState, cost, changeCount, Allowed, AllowedWhole, First}
@@ -33,9 +33,9 @@ use Rattle.model.specs.Least.{leastBelow, below-met, below-least, given-
 use Rattle.model.specs.Labels.{labelOn, countIn, closed-none, whole-point, point-whole}
 use Rattle.model.specs.Nodes.{Node, node, nodeOf, sound}
 use Rattle.model.specs.Opt.{opt, opt-layers}
-use Rattle.model.specs.Index.{noCost, held, some-held}
-use Rattle.model.specs.Held.{penaltyMost, Table, Holding, rank-low}
-use Rattle.model.specs.Ends.{lossMost, room, leastEndAt, leastEndOf, endOf, least-end-of, none-by}
+use Rattle.model.specs.Index.{pairOf, noCost, reported, some-held, held-value}
+use Rattle.model.specs.Held.{Table, Holding, cost-low}
+use Rattle.model.specs.Ends.{lossMost, leastEndAt, leastEndOf, endOf, least-end-of, none-by}
 use Rattle.model.specs.Tables.{Ready, losses}
 use Rattle.model.specs.Totals.{optWith, totalAt, with-grid, with-met, with-least, total-held}
 
@@ -129,25 +129,13 @@ entries-at P zs (suc n) k h = go (ℕ-discrete k n) (entries-at P zs n k)
 
 -- ---- by the numbers that code holds
 
--- the entry for a number that code holds
-unfoldable pub entryAt : ℕ → ℕ
-entryAt v = cond (ltb v noCost) v mostWord
-
-entry-held : (v : ℕ) → entryOf (held v) ≡ entryAt v
-unfolding entryAt held
-entry-held v = go (ltb v noCost)
-  where
-    go : (b : Bool) → entryOf (cond b (some v) none) ≡ cond b v mostWord
-    go true = refl
-    go false = refl
-
 -- a cost at an end of a layer is at least the least of them, and the least is one of them
-end-low : (P : Plan) (F : Node → Option Cost) (s j : ℕ) (c : Cost) → s < P .states → j < width P → endOf P F s j ≡ some c → (d : Cost) × (leastEndOf P F ≡ some d) × (d ≤ c)
+end-low : (P : Plan) (F : Node → Option Cost) (s j : ℕ) (c : Cost) → s < P .states → j < width P → endOf P F s j ≡ some c → (d : Cost) × (leastEndOf P F ≡ some d) × (d ≼ c)
 unfolding leastEndOf
 end-low P F s j c hs hj p =
     let (d, q, h) = below-least (width P) (endOf P F s) j c hj p in
     let (d′, q′, h′) = below-least (P .states) (λ s. leastBelow (width P) (λ j. endOf P F s j)) s d hs q in
-    (d′, q′, omega (arith, h .le, h′ .le))
+    (d′, q′, ≼-trans h′ h)
 
 end-met : (P : Plan) (F : Node → Option Cost) (c : Cost) → leastEndOf P F ≡ some c → (s : ℕ) × (j : ℕ) × (inSet (P .end) s ≡ true) × (F (node 0 s (P .lo +ℤ pos j)) ≡ some c)
 unfolding leastEndOf
@@ -182,15 +170,13 @@ module _ (P : Plan) (zs : List ℤ) (accepts : searchNumber P (length zs) ≡ 0)
     met-at zero v c h p = absurd (omega arith)
     met-at (suc t) v c h p = with-met P zs (acc .plan) t (suc k) v c p
 
-    last-met : (c : Cost) → leastEndOf P last ≡ some c → (g : Seg) × AllowedWhole P (length zs) g × (changeCount P g ≡ k) × (cost P zs g ≡ c)
-    unfolding value
+    last-met : (c : Cost) → leastEndOf P last ≡ some c → (g : Seg) × AllowedWhole P (length zs) g × (changeCount P g ≡ k) × (cost P zs g ≡ value c)
     last-met c p =
         let (s, j, en, q) = end-met P last c p in
         let (g, a, e, i, w) = met-at (length zs) (node 0 s (P .lo +ℤ pos j)) c (acc .some-readings) q in
-        (g, whole-at g s (P .lo +ℤ pos j) a e en, omega arith, sym (rank-value P zs g) ∙ w)
+        (g, whole-at g s (P .lo +ℤ pos j) a e en, omega arith, sym (rank-value P zs g) ∙ ap value w)
 
-    last-low : (g : Seg) → AllowedWhole P (length zs) g → changeCount P g ≡ k → (c : Cost) × (leastEndOf P last ≡ some c) × (c ≤ cost P zs g)
-    unfolding value
+    last-low : (g : Seg) → AllowedWhole P (length zs) g → changeCount P g ≡ k → (c : Cost) × (leastEndOf P last ≡ some c) × (value c ≤ cost P zs g)
     last-low g a e =
         let (c, p, h) = with-least P zs (acc .plan) (length zs) g (whole-point P (length zs) g a) in
         let s = lastState P g in
@@ -200,22 +186,32 @@ module _ (P : Plan) (zs : List ℤ) (accepts : searchNumber P (length zs) ≡ 0)
         let (hj, i) = grid-index P m (with-grid P zs (length zs) (suc k) (node 0 s m) c q) in
         let r : endOf P last s j ≡ some c = rw (a .ends, i) q in
         let (d, r′, l) = end-low P last s j c (acc .plan .ends s (a .ends)) hj r in
-        (d, r′, omega (arith, l, h .le, rank-value P zs g))
+        (d, r′, omega (arith, value-mono {a = d} (≼-trans {a = d} {b = c} l h), rank-value P zs g))
 
-    -- the least end of that layer is what is listed
-    pub last-listed : listedWith P zs k ≡ leastEndOf P last
-    last-listed = with-is P zs (built-search P (length zs) accepts) k (leastEndOf P last)
-        (λ c p. record {
-          met = last-met c p;
-          least = λ g a e. let (d, q, l) = last-low g a e in let z : c ≡ d = Option·some-injective c d (sym p ∙ q) in omega arith;
-        })
-        (λ p g a e. let (d, q, l) = last-low g a e in let z : _≡_ {A = ℕ} 0 1 = cc in omega arith)
+    -- the cost at the least end of that layer is what is listed
+    pub last-listed : listedWith P zs k ≡ Option·map value (leastEndOf P last)
+    last-listed = with-is P zs (built-search P (length zs) accepts) k (Option·map value (leastEndOf P last)) (λ c p. found-at c (leastEndOf P last) refl p) (λ p g a e. none-at (leastEndOf P last) refl p g a e)
+      where
+        found-at : (c : ℕ) (o : Option Cost) → leastEndOf P last ≡ o → Option·map value o ≡ some c → LeastWith P zs k c
+        found-at c none e p = let z : _≡_ {A = ℕ} 0 1 = cc in absurd (omega arith)
+        found-at c (some b) e p =
+            let w : value b ≡ c = Option·some-injective (value b) c p in
+            let (g, a, q, v) = last-met b e in
+            record {
+              met = (g, a, q, v ∙ w);
+              least = λ g a q. let (d, r, l) = last-low g a q in let z : b ≡ d = Option·some-injective b d (sym e ∙ r) in omega (arith, ap value z);
+            }
+
+        none-at : (o : Option Cost) → leastEndOf P last ≡ o → Option·map value o ≡ none → NoneWith P (length zs) k
+        none-at none e p g a q = let (d, r, l) = last-low g a q in let z : _≡_ {A = ℕ} 0 1 = cc in omega arith
+        none-at (some b) e p g a q = let z : _≡_ {A = ℕ} 0 1 = cc in omega arith
 
   module _ (R : Ready P zs) where
-    pub entry-by : (k : ℕ) → entryOf (listedWith P zs k) ≡ entryAt (leastEndAt P (totalAt P zs (length zs) (suc k)))
+    pub entry-by : (k : ℕ) → entryOf (listedWith P zs k) ≡ entryOf (reported (leastEndAt P (totalAt P zs (length zs) (suc k))))
     entry-by k =
         let H = totalAt P zs (length zs) (suc k) in
-        ap entryOf (last-listed k ∙ sym (least-end-of P (last k) H (total-held P zs R (length zs) (suc k) (R .some-readings) (R .few-readings)))) ∙ entry-held (leastEndAt P H)
+        let h = least-end-of P (last k) H (total-held P zs R (length zs) (suc k) (R .some-readings) (R .few-readings)) in
+        ap entryOf (last-listed k ∙ ap (Option·map value) (sym h) ∙ held-value (leastEndAt P H))
 
 -- ---- the ticket's sentences
 
@@ -274,15 +270,12 @@ module _ (P : Plan) (zs : List ℤ) (most : ℕ) (accepts : tableNumber P (lengt
 
   module _ (R : Ready P zs) where
     -- a cost is below the largest word
-    cost-low : (g : Seg) → AllowedWhole P (length zs) g → cost P zs g < mostWord
-    unfolding value
-    cost-low g a =
-        let h : rank P zs g ≤ length zs * (lossMost + penaltyMost) = subst (λ (x : ℕ). rank P zs g ≤ x * (lossMost + penaltyMost)) (a .count) (rank-low P zs (R .plan) lossMost (losses P zs R) g (a .follows)) in
-        omega (arith, h, rank-value P zs g, room (length zs) (R .few-readings))
+    cost-below : (g : Seg) → AllowedWhole P (length zs) g → cost P zs g < mostWord
+    cost-below g a = omega (arith, cost-low P zs (R .plan) lossMost (losses P zs R) g (a .follows), a .count, R .few-readings)
 
     -- such an entry is a cost, so it is not the largest word
     below-word : (g : Seg) (k : ℕ) → AllowedWhole P (length zs) g → changeCount P g ≡ k → k ≤ most → getD list k 0 < mostWord
-    below-word g k a e h = omega (arith, low-at g k a e h, cost-low g a)
+    below-word g k a e h = omega (arith, low-at g k a e h, cost-below g a)
 
     smallest-at : (g : Seg) → First P zs g → changeCount P g ≤ most → leastOf list ≡ cost P zs g
     smallest-at g f h =
@@ -375,7 +368,7 @@ module _ (P : Plan) (zs : List ℤ) (most : ℕ) where
 
     pub table-found-by : leastEndAt P H < noCost → tableOf P zs most ≡ costList (entries P zs (suc most))
     table-found-by h =
-        let c = leastEndAt P H in
-        let (s, j, en, q) = end-met P (opt P zs (length zs)) c (sym (least-end-of P (opt P zs (length zs)) H hold) ∙ some-held c h) in
+        let c : Cost = pairOf (leastEndAt P H) in
+        let (s, j, en, q) = end-met P (opt P zs (length zs)) c (sym (least-end-of P (opt P zs (length zs)) H hold) ∙ some-held (leastEndAt P H) h) in
         let (g, a, e, w) = sound-at (length zs) (node 0 s (P .lo +ℤ pos j)) c (acc P zs accepts .some-readings) q in
         table-found (built-search P (length zs) accepts) g (whole-at P zs accepts g s (P .lo +ℤ pos j) a e en)

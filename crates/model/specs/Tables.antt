@@ -22,9 +22,10 @@ use borrow.Author.Tests.{ltb-true, ltb-false, leb-true, eqb-true, le-leb, eq-eqb
 use lib.IntN.{ℤ, pos, _+ℤ_}
 use lib.ListN.{length, getD}
 use lib.Signed.{mag}
+use Rattle.integers.specs.Pairs.{unit}
 use Rattle.plan.specs.declared.Plan.{Plan}
 use Rattle.plan.specs.declared.Label.{Label}
-use Rattle.model.specs.Model.{edgeAt, need, width, penaltyOf, inSet, onGrid, lossAt}
+use Rattle.model.specs.Model.{edgeAt, need, width, inSet, onGrid, lossAt}
 use Rattle.model.specs.Refusals.{searchNumber, pointNumber}
 use Rattle.model.specs.Run.{run, joins}
 use Rattle.model.specs.Checked.{Checked, accepted, accepted-point}
@@ -34,10 +35,10 @@ use Rattle.model.specs.Marks.{markOf}
 use Rattle.model.specs.Labels.{labelOn, labelTest, countAfter, countBefore, counts}
 use Rattle.model.specs.Nodes.{node}
 use Rattle.model.specs.Opt.{opt}
-use Rattle.model.specs.Index.{noCost, some-held, edge-min, Permitted, permitted-yes}
-use Rattle.model.specs.Held.{penaltyMost, Table, Holding, raise, minBelow, min-met, fromCount, leadsAt, edgeLeast, byEdge, firstTable, nextFrom, opt-low, next-most}
+use Rattle.model.specs.Index.{pairOf, noCost, some-held, edge-min, Permitted, permitted-yes}
+use Rattle.model.specs.Held.{Table, Holding, raise, minBelow, min-met, fromCount, leadsAt, edgeLeast, edgeWeight, byEdge, firstTable, nextFrom, number-low, opt-low, next-most}
 use Rattle.model.specs.Runs.{walkBack, walk-few}
-use Rattle.model.specs.Ends.{endAt, leastEndAt, lossMost, losses-low, room, tableAt, table-holding, walk-on, earlier-count}
+use Rattle.model.specs.Ends.{endAt, leastEndAt, lossMost, losses-low, stepMost, room, tableAt, table-holding, walk-on, earlier-count}
 
 -- what a call knows once no number refuses; the ranges are those of the types
 pub record Ready (P : Plan) (zs : List ℤ) : Type 0 where
@@ -129,14 +130,14 @@ module _ (P : Plan) (zs : List ℤ) (R : Ready P zs) where
   table-held (suc t) h k = table-holding P zs (R .plan) losses t (omega arith)
 
   value-held : (t k s j : ℕ) → 1 ≤ t → t ≤ 4096 → k < counts → s < P .states → j < width P → tableAt P zs t k s j < noCost
-      → opt P zs t (node k s (P .lo +ℤ pos j)) ≡ some (tableAt P zs t k s j)
+      → opt P zs t (node k s (P .lo +ℤ pos j)) ≡ some (pairOf (tableAt P zs t k s j))
   value-held t k s j h l hk hs hj d = sym (table-held t h l .at k s j hk hs hj) ∙ some-held (tableAt P zs t k s j) d
 
   pub first-most : (k s j : ℕ) → j < width P → firstTable P zs k s j ≤ noCost
   unfolding firstTable
   first-most k s j hj = go (inSet (P .start) s && eqb k 0)
     where
-      go : (b : Bool) → cond b (lossAt zs 0 (P .lo +ℤ pos j)) noCost ≤ noCost
+      go : (b : Bool) → cond b (unit * lossAt zs 0 (P .lo +ℤ pos j)) noCost ≤ noCost
       go true = omega (arith, losses 0 (P .lo +ℤ pos j) (index-grid P (R .plan .grid) j hj))
       go false = omega arith
 
@@ -149,18 +150,18 @@ module _ (P : Plan) (zs : List ℤ) (R : Ready P zs) where
 
   -- a number is none, or at most what so many readings cost
   pub table-cases : (t k s j : ℕ) → 1 ≤ t → t ≤ 4096 → k < counts → s < P .states → j < width P
-      → (tableAt P zs t k s j ≡ noCost) ⊎ (tableAt P zs t k s j ≤ t * (lossMost + penaltyMost))
+      → (tableAt P zs t k s j ≡ noCost) ⊎ (tableAt P zs t k s j ≤ t * stepMost)
   table-cases t k s j h l hk hs hj = go (decLt (tableAt P zs t k s j) noCost) (table-most t k s j h l hj)
     where
-      go : Dec (tableAt P zs t k s j < noCost) → tableAt P zs t k s j ≤ noCost → (tableAt P zs t k s j ≡ noCost) ⊎ (tableAt P zs t k s j ≤ t * (lossMost + penaltyMost))
+      go : Dec (tableAt P zs t k s j < noCost) → tableAt P zs t k s j ≤ noCost → (tableAt P zs t k s j ≡ noCost) ⊎ (tableAt P zs t k s j ≤ t * stepMost)
       go (yes d) m =
-          inr (opt-low P zs (R .plan) lossMost losses t (node k s (P .lo +ℤ pos j)) (tableAt P zs t k s j) (value-held t k s j h l hk hs hj d))
+          inr (number-low lossMost t (tableAt P zs t k s j) (opt-low P zs (R .plan) lossMost losses t (node k s (P .lo +ℤ pos j)) (pairOf (tableAt P zs t k s j)) (value-held t k s j h l hk hs hj d)))
       go (no d) m = inl (omega arith)
 
   -- there are no more runs than readings
   pub few-runs-at : (n t k s j : ℕ) → t < 4096 → k < counts → s < P .states → j < width P → tableAt P zs (suc t) k s j < noCost
       → length (walkBack P zs n (suc t) (node k s (P .lo +ℤ pos j))) ≤ suc t
-  few-runs-at n t k s j l hk hs hj d = walk-few P zs n t (node k s (P .lo +ℤ pos j)) (tableAt P zs (suc t) k s j) (value-held (suc t) k s j (omega arith) l hk hs hj d)
+  few-runs-at n t k s j l hk hs hj d = walk-few P zs n t (node k s (P .lo +ℤ pos j)) (pairOf (tableAt P zs (suc t) k s j)) (value-held (suc t) k s j (omega arith) l hk hs hj d)
 
   -- ---- one step back, from the number at count k, state s and index j after t + 2 readings
 
@@ -173,7 +174,7 @@ module _ (P : Plan) (zs : List ℤ) (R : Ready P zs) where
     abbrev pub MeetsAt : ℕ → Type 0
     MeetsAt e =
         (leadsAt P (suc t) e k s ≡ true) × (edgeLeast P (suc t) T k j e < noCost)
-        × (edgeLeast P (suc t) T k j e + (penaltyOf P e + lossAt zs (suc t) (P .lo +ℤ pos j)) ≡ tableAt P zs (suc (suc t)) k s j)
+        × (edgeLeast P (suc t) T k j e + (edgeWeight P e + unit * lossAt zs (suc t) (P .lo +ℤ pos j)) ≡ tableAt P zs (suc (suc t)) k s j)
 
     pub some-edge : (e : ℕ) × (e < P .edgecount) × MeetsAt e
     unfolding tableAt nextFrom byEdge raise
@@ -186,17 +187,17 @@ module _ (P : Plan) (zs : List ℤ) (R : Ready P zs) where
         m = minBelow (P .edgecount) f
 
         loss : ℕ
-        loss = lossAt zs (suc t) (P .lo +ℤ pos j)
+        loss = unit * lossAt zs (suc t) (P .lo +ℤ pos j)
 
         inner : (e : ℕ) → (b : Bool) → leadsAt P (suc t) e k s ≡ b → (c : Bool) → ltb (edgeLeast P (suc t) T k j e) noCost ≡ c
-            → cond b (cond c (edgeLeast P (suc t) T k j e + penaltyOf P e) (edgeLeast P (suc t) T k j e)) noCost ≡ m → m < noCost
-            → (leadsAt P (suc t) e k s ≡ true) × (edgeLeast P (suc t) T k j e < noCost) × (edgeLeast P (suc t) T k j e + (penaltyOf P e + loss) ≡ m + loss)
+            → cond b (cond c (edgeLeast P (suc t) T k j e + edgeWeight P e) (edgeLeast P (suc t) T k j e)) noCost ≡ m → m < noCost
+            → (leadsAt P (suc t) e k s ≡ true) × (edgeLeast P (suc t) T k j e < noCost) × (edgeLeast P (suc t) T k j e + (edgeWeight P e + loss) ≡ m + loss)
         inner e true p true q w h = (p, ltb-true (edgeLeast P (suc t) T k j e) noCost q, omega arith)
         inner e true p false q w h = absurd (omega (arith, ltb-false (edgeLeast P (suc t) T k j e) noCost q))
         inner e false p c q w h = absurd (omega arith)
 
         outer : (b : Bool) → ltb m noCost ≡ b → cond b (m + loss) m < noCost → (e : ℕ) × (e < P .edgecount)
-            × ((leadsAt P (suc t) e k s ≡ true) × (edgeLeast P (suc t) T k j e < noCost) × (edgeLeast P (suc t) T k j e + (penaltyOf P e + loss) ≡ cond b (m + loss) m))
+            × ((leadsAt P (suc t) e k s ≡ true) × (edgeLeast P (suc t) T k j e < noCost) × (edgeLeast P (suc t) T k j e + (edgeWeight P e + loss) ≡ cond b (m + loss) m))
         outer true q v =
             let h = ltb-true m noCost q in
             let (e, he, w) = min-met (P .edgecount) f h in
@@ -214,10 +215,10 @@ module _ (P : Plan) (zs : List ℤ) (R : Ready P zs) where
       module _ (lowest-edge : (e′ : ℕ) → e′ < e → MeetsAt e′ → ⊥) (i : ℕ) (hi : i < width P) (permitted : Permitted (edgeAt P e .kind) i j)
           (least : T (fromCount P (suc t) e k) (edgeAt P e .from) i ≡ edgeLeast P (suc t) T k j e)
           (lowest-level : (i′ : ℕ) → i′ < i → Permitted (edgeAt P e .kind) i′ j → T (fromCount P (suc t) e k) (edgeAt P e .from) i′ ≡ edgeLeast P (suc t) T k j e → ⊥) where
-        space : suc (suc t) * (lossMost + penaltyMost) < noCost
+        space : suc (suc t) * stepMost < noCost
         space = room (suc t) (omega (arith, R .few-readings))
 
-        value-is : opt P zs (suc (suc t)) (node k s (P .lo +ℤ pos j)) ≡ some (tableAt P zs (suc (suc t)) k s j)
+        value-is : opt P zs (suc (suc t)) (node k s (P .lo +ℤ pos j)) ≡ some (pairOf (tableAt P zs (suc (suc t)) k s j))
         value-is = value-held (suc (suc t)) k s j (omega arith) (omega (arith, R .few-readings)) hk hs hj low
 
         earlier-held : Holding P zs (suc t) T

@@ -1,18 +1,16 @@
 -- The least costs for each number of changes, by layers and in numbers. A slot stands for a number of changes: slot 0 has nothing, and slot i + 1 the
 -- segmentations with i changes. An edge without a change stays in its slot, and an edge with one comes from the slot before. What code has to show: its
 -- first lists are those of a search in slot 1 (`total-first`) and none in every other, and its next ones `nextFrom` of the slots (`total-next`).
--- Then `total-held` says that each number is the least cost there, and from slot t + 1 on there is none after t readings (`total-none`). Assumes nothing.
+-- Then `total-held` says that each number is that of the least cost there, and from slot t + 1 on there is none after t readings (`total-none`). Assumes nothing.
 use mathlib.Core.Path.{_≡_, refl, sym, _∙_, ap, subst}
 use mathlib.Core.Option.{Option, none, some}
 use mathlib.Core.List.{List}
 use mathlib.Core.Bool.{true}
-use Prim.Native.Nat.{ℕ, zero, suc, _+_, _-_, _*_, _≤_, _<_}
+use Prim.Native.Nat.{ℕ, zero, suc, _+_, _-_, _≤_, _<_}
 use native.Mathlib.Omega.{arith}
 use native.Mathlib.Decide.{decLt}
 use lib.IntN.{ℤ, pos, _+ℤ_}
 use Rattle.plan.specs.declared.Plan.{Plan}
-use Rattle.plan.specs.declared.Kind.{Kind}
-use Rattle.plan.specs.declared.Kind.the-variants.{Stay, Any, Up, Down, Abs}
 use Rattle.model.specs.Cost.{Cost, _⊕_, _≼_, ≼-trans, ≼-antisym, ≼-mono, cancel}
 use Rattle.model.specs.Segmentation.{Seg, first, next, readings}
 use Rattle.model.specs.Rank.{firstCost, stepCost, rank}
@@ -24,8 +22,8 @@ use Rattle.model.specs.Marks.{rules-marks, marks-rules}
 use Rattle.model.specs.Labels.{counts}
 use Rattle.model.specs.Nodes.{Node, node, Start, Step, graph, laws, nodeOf, runs-model, model-runs}
 use Rattle.model.specs.Opt.{opt, stepFrom, from-met, from-low, from-grid, opt-grid, opt-layers}
-use Rattle.model.specs.Index.{noCost, some-held}
-use Rattle.model.specs.Held.{penaltyMost, Table, HoldingOf, firstTable, nextFrom, held-none, rank-low, first-holding, from-holding, from-most}
+use Rattle.model.specs.Index.{pairOf, noCost, some-held}
+use Rattle.model.specs.Held.{Table, HoldingOf, firstTable, nextFrom, held-none, change-low, changes-few, Low, rank-low, first-holding, from-holding, from-most}
 use Rattle.model.specs.Ends.{lossMost, room}
 use Rattle.model.specs.Tables.{Ready, losses, first-most}
 
@@ -51,21 +49,6 @@ not-some : {A : Type 0} {o : Option Cost} {c : Cost} → o ≡ none → o ≡ so
 not-some p q = let z : _≡_ {A = ℕ} 0 1 = cc in absurd (omega arith)
 
 -- ---- the graph whose nodes have a slot beside them
-
--- an edge has at most one change
-pub change-low : (k : Kind) → changeOf k ≤ 1
-unfolding changeOf
-change-low Stay = omega arith
-change-low Any = omega arith
-change-low (Up gap) = omega arith
-change-low (Down gap) = omega arith
-change-low (Abs gap) = omega arith
-
--- so there are fewer changes than readings
-changes-few : (P : Plan) (g : Seg) → changeCount P g < readings g
-unfolding changeCount readings
-changes-few P (first s m) = omega arith
-changes-few P (next g e m) = omega (arith, changes-few P g, change-low (edgeAt P e .kind))
 
 pub record SlotNode : Type 0 where
   pub slot : ℕ
@@ -230,13 +213,12 @@ module _ (P : Plan) (zs : List ℤ) where
 
   module _ (R : Ready P zs) where
     -- the same bound as for a search
-    with-low : (t i : ℕ) (v : Node) (c : Cost) → optWith P zs t i v ≡ some c → c ≤ t * (lossMost + penaltyMost)
+    with-low : (t i : ℕ) (v : Node) (c : Cost) → optWith P zs t i v ≡ some c → Low lossMost t c
     unfolding optWith
     with-low zero i v c p = not-some refl p
     with-low (suc t) i v c p =
         let (g, a, e, n, w) = with-met P zs (R .plan) t i v c p in
-        subst (λ (x : Cost). x ≤ suc t * (lossMost + penaltyMost)) w
-        (subst (λ (x : ℕ). rank P zs g ≤ x * (lossMost + penaltyMost)) (a .count) (rank-low P zs (R .plan) lossMost (losses P zs R) g (a .follows)))
+        subst (Low lossMost (suc t)) w (rank-low P zs (R .plan) lossMost (losses P zs R) (suc t) g a)
 
     none-held-at : HoldingOf P (λ v. none) (λ k s j. noCost)
     none-held-at = record { at = λ k s j hk hs hj. held-none }
@@ -265,7 +247,7 @@ module _ (P : Plan) (zs : List ℤ) where
         (λ c. total-held (suc t) (suc i - c) (omega arith) (omega arith)) (λ c. with-low (suc t) (suc i - c)) (room (suc t) (omega arith)) k s j hj
 
     total-value : (t i k s j : ℕ) → 1 ≤ t → t ≤ 4096 → k < counts → s < P .states → j < width P → totalAt P zs t i k s j < noCost
-        → optWith P zs t i (node k s (P .lo +ℤ pos j)) ≡ some (totalAt P zs t i k s j)
+        → optWith P zs t i (node k s (P .lo +ℤ pos j)) ≡ some (pairOf (totalAt P zs t i k s j))
     total-value t i k s j h l hk hs hj d = sym (total-held t i h l .at k s j hk hs hj) ∙ some-held (totalAt P zs t i k s j) d
 
     -- a slot that has a cost after t readings is one of 1 to t
@@ -281,5 +263,5 @@ module _ (P : Plan) (zs : List ℤ) where
     total-none t i k s j h l b hk hs hj = go (decLt (totalAt P zs t i k s j) noCost)
       where
         go : Dec (totalAt P zs t i k s j < noCost) → totalAt P zs t i k s j ≡ noCost
-        go (yes d) = absurd (omega (arith, with-slot t i (node k s (P .lo +ℤ pos j)) (totalAt P zs t i k s j) (total-value t i k s j h l hk hs hj d)))
+        go (yes d) = absurd (omega (arith, with-slot t i (node k s (P .lo +ℤ pos j)) (pairOf (totalAt P zs t i k s j)) (total-value t i k s j h l hk hs hj d)))
         go (no d) = omega (arith, total-most t i k s j h l hj)

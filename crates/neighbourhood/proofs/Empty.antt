@@ -14,11 +14,11 @@ use Rattle.model.specs.Labels.{labelOn, counts, used-most}
 use Rattle.model.specs.Index.{noCost}
 use Rattle.model.specs.Held.{Table, firstTable}
 use Rattle.model.specs.Totals.{totalAt, total-first}
-use Rattle.quadratic.specs.Quad.{none, flat}
+use Rattle.quadratic.specs.Quad.{absent}
 use Rattle.curve.specs.Pieces.{Made}
 use Rattle.curve.specs.Curve.{Curve, curve-kept, curve-flat, near}
 use Rattle.layer.specs.declared.Shape.{Shape}
-use Rattle.layer.specs.Layer.{stepMost, layerCell, layerWords, listAt, Shape-small, LayerOf}
+use Rattle.layer.specs.Layer.{readingMost, countMost, layerCell, layerWords, listAt, Shape-small, LayerOf}
 use Rattle.layer.specs.Next.{StartReady, Stepped}
 use Rattle.layer.proofs.Next.{of-shape, shape-small}
 use Rattle.saved.specs.Packed.{Inside}
@@ -35,7 +35,7 @@ pub record Blank (L q : ℕ) (ws ws′ : List ℕ) : Type 0 where
 pub blank-none : (L : ℕ) (ws : List ℕ) → Blank L 0 ws ws
 blank-none L ws = record { inside = inside-refl _ _ ws; list = λ p A B base h. absurd (omega arith) }
 
-pub blank-more : {L q : ℕ} {ws ws′ ws″ : List ℕ} → Blank L q ws ws′ → q * (4 * L) + 4 * L ≤ length ws′ → Made (λ (j : ℕ). flat none) ws′ ws″ (q * (4 * L)) L → Blank L (q + 1) ws ws″
+pub blank-more : {L q : ℕ} {ws ws′ ws″ : List ℕ} → Blank L q ws ws′ → q * (4 * L) + 4 * L ≤ length ws′ → Made (λ (j : ℕ). absent) ws′ ws″ (q * (4 * L)) L → Blank L (q + 1) ws ws″
 blank-more {L} {q} {ws} {ws′} {ws″} m room w = record {
   inside = inside-then (inside-wider 0 ((q + 1) * (4 * L)) (omega arith) (omega arith) (m .inside)) (kept-inside (omega arith) (omega arith) (w .kept));
   list = λ p A B base h. ⊎-elim (λ k. last p A B base (omega arith)) (λ k. let c = m .list p A B base k in curve-kept (w .kept) c (near (q * (4 * L)) c (inl (omega (arith, mul-le-mul-right (4 * L) k))))) (le-or-lt q p);
@@ -74,7 +74,7 @@ module _ {P : Plan} {zs : List ℤ} {most : ℕ} {g : Shape} {ws ws′ : List �
   empty-layer t = record {
     list = λ k s hk hs.
         of-shape (a .task .shape)
-        (subst (λ (x : ℕ). Curve t (t * stepMost) (g .base) (g .levels) ws′ x (λ (j : ℕ). noCost)) (place k s)
+        (subst (λ (x : ℕ). Curve (t * countMost) (t * readingMost) (g .base) (g .levels) ws′ x (λ (j : ℕ). noCost)) (place k s)
         (m .list k s _ _ (g .base) (omega (arith, used-most (labelOn P t))) (omega (arith, a .task .shape .states))));
   }
     where

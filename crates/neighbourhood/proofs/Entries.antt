@@ -3,11 +3,11 @@ use mathlib.Core.Path.{_≡_, refl, sym, _∙_, ap, subst}
 use mathlib.Core.List.{List, _∷_, [], _++_}
 use mathlib.Core.Bool.{Bool, true, false}
 use mathlib.Core.Logic.{_⊎_, ⊎-elim}
-use Prim.Native.Nat.{ℕ, suc, _+_, _≤_, _<_}
+use Prim.Native.Nat.{ℕ, suc, _+_, _/_, _≤_, _<_}
 use native.Mathlib.Omega.{arith}
 use native.Mathlib.Numerals.{add-one}
 use lib.Dec.{leb}
-use borrow.Author.Tests.{leb-true, leb-false, lt-ltb, le-ltb}
+use borrow.Author.Tests.{leb-true, leb-false}
 use lib.IntN.{ℤ}
 use lib.ListN.{length, getD, take, drop, set, length-set, take-append-drop}
 use lib.Seq.{take-suc, take-suc-set, drop-set-lt, drop-drop}
@@ -15,7 +15,10 @@ use Rattle.plan.specs.declared.Plan.{Plan}
 use Rattle.model.specs.Labels.{labelOn, used-some}
 use Rattle.model.specs.Refusals.{searchNumber}
 use Rattle.model.specs.Checked.{built-search}
-use Rattle.model.specs.Index.{noCost}
+use Rattle.integers.specs.Pairs.{unit}
+use Rattle.quadratic.specs.Quad.{none}
+use Rattle.curve.specs.Lows.{few}
+use Rattle.model.specs.Index.{reported, reported-some, reported-none}
 use Rattle.model.specs.Held.{Table, Holding}
 use Rattle.model.specs.Ends.{tableAt, leastEndAt}
 use Rattle.model.specs.Tables.{table-held}
@@ -23,13 +26,13 @@ use Rattle.model.specs.Totals.{totalAt}
 use Rattle.model.specs.Result.{Costs, costList, noCosts}
 use Rattle.model.specs.Listed.{listedWith}
 use Rattle.model.specs.Neighbourhood.{mostWord, entryOf, entries, tableOf}
-use Rattle.model.specs.NeighbourhoodLaws.{entryAt, entry-by, entries-size, table-entry, table-none-by, table-found-by}
+use Rattle.model.specs.NeighbourhoodLaws.{entry-by, entries-size, table-entry, table-none-by, table-found-by}
 use Rattle.layer.specs.declared.Shape.{Shape}
 use Rattle.layer.specs.Layer.{ShapeOf, placeMost, LayerOf}
 use Rattle.saved.specs.Packed.{Inside}
 use Rattle.saved.specs.Walk.{Workspace}
 use Rattle.saved.proofs.Chains.{inside-refl, inside-wider}
-use Rattle.back.specs.Read.{Readable, Reads, EndTo, layer-reads, layer-readable, readable-fewer, reads-fewer}
+use Rattle.back.specs.Read.{Readable, Reads, endOf, EndTo, layer-reads, layer-readable, readable-fewer, reads-fewer}
 use Rattle.back.specs.declared.End.{End}
 use Rattle.search.specs.declared.Ended.{Ended}
 use Rattle.search.specs.declared.Filled.the-variants as F
@@ -41,25 +44,20 @@ use Rattle.neighbourhood.proofs.Slots.{slot-layer}
 
 -- ---- one entry
 
-entry-below : (v : ℕ) → v < noCost → entryAt v ≡ v
-unfolding entryAt
-entry-below v h = rw (lt-ltb v noCost h) refl
-
-entry-above : (v : ℕ) → noCost ≤ v → entryAt v ≡ mostWord
-unfolding entryAt
-entry-above v h = rw (le-ltb v noCost h) refl
-
 -- the cheapest end of a layer as an entry
-module _ {P : Plan} {H : Table} {r : End} (m : EndTo P H (P .states) r) where
-  least-is : r .value ≡ leastEndAt P H
+module _ {P : Plan} {H : Table} {r : End} (few-changes : r .changes ≤ few) (m : EndTo P H (P .states) r) where
+  pub least-is : endOf r ≡ leastEndAt P H
   unfolding leastEndAt
   least-is = m .is
 
-  pub entry-cost : r .value < noCost → r .value ≡ entryAt (leastEndAt P H)
-  entry-cost h = least-is ∙ sym (entry-below (leastEndAt P H) (omega (arith, least-is)))
+  cost-is : r .value ≡ leastEndAt P H / unit
+  cost-is = omega (arith, least-is)
 
-  pub entry-none : noCost ≤ r .value → mostWord ≡ entryAt (leastEndAt P H)
-  entry-none h = sym (entry-above (leastEndAt P H) (omega (arith, least-is)))
+  pub entry-cost : r .value < none → r .value ≡ entryOf (reported (leastEndAt P H))
+  entry-cost h = cost-is ∙ ap entryOf (sym (reported-some (leastEndAt P H) (omega (arith, least-is))))
+
+  pub entry-none : none ≤ r .value → mostWord ≡ entryOf (reported (leastEndAt P H))
+  entry-none h = ap entryOf (sym (reported-none (leastEndAt P H) (omega (arith, least-is))))
 
 module _ {P : Plan} {zs : List ℤ} {most : ℕ} {g : Shape} {ws : List ℕ} (a : Ground P zs most g ws) {b : ℕ} (m : Slots P zs most (length zs) b ws) (k : ℕ) (hk : k ≤ most) {o : ℕ} (e : o ≡ placeOf P (slotOf b (suc k) (length zs))) where
   layer-here : LayerOf P (length zs) (totalAt P zs (length zs) (suc k)) ws o
@@ -68,7 +66,7 @@ module _ {P : Plan} {zs : List ℤ} {most : ℕ} {g : Shape} {ws : List ℕ} (a 
   pub may-read : o ≤ placeMost → Readable 1 o g ws × ShapeOf P g
   may-read h = (readable-fewer (used-some (labelOn P (length zs))) (layer-readable (a .task) layer-here h (a .task .ready .few-readings)), a .task .shape)
 
-  pub entry-is : {c : ℕ} → ((H : Table) → Reads 1 o g ws H → c ≡ entryAt (leastEndAt P H)) → c ≡ entryOf (listedWith P zs k)
+  pub entry-is : {c : ℕ} → ((H : Table) → Reads 1 o g ws H → c ≡ entryOf (reported (leastEndAt P H))) → c ≡ entryOf (listedWith P zs k)
   entry-is f = f (totalAt P zs (length zs) (suc k)) (reads-fewer (used-some (labelOn P (length zs))) (layer-reads (a .task) layer-here)) ∙ sym (entry-by P zs (a .accepts) (a .task .ready) k)
 
 -- ---- all of them
@@ -113,13 +111,13 @@ module _ {P : Plan} {zs : List ℤ} {most : ℕ} {g : Shape} {ws : List ℕ} (a 
     last-held : Holding P zs (length zs) (tableAt P zs (length zs))
     last-held = table-held P zs (a .task .ready) (length zs) (a .task .ready .some-readings) (a .task .ready .few-readings)
 
-    end-is : r .end .value ≡ leastEndAt P (tableAt P zs (length zs))
-    end-is = least-is (m .ends)
+    end-is : endOf (r .end) ≡ leastEndAt P (tableAt P zs (length zs))
+    end-is = least-is (m .changes) (m .ends)
 
-    pub decided : (x : Bool) → x ≡ leb noCost (r .end .value) → Decided P zs most x ws ws′
+    pub decided : (x : Bool) → x ≡ leb none (r .end .value) → Decided P zs most x ws ws′
     decided x e = record {
-      none = λ q. table-none-by P zs most (a .accepts) (tableAt P zs (length zs)) last-held (omega (arith, end-is, leb-true noCost (r .end .value) (sym e ∙ q)));
-      found = λ q. table-found-by P zs most (a .accepts) (tableAt P zs (length zs)) last-held (omega (arith, end-is, leb-false noCost (r .end .value) (sym e ∙ q)));
+      none = λ q. table-none-by P zs most (a .accepts) (tableAt P zs (length zs)) last-held (omega (arith, end-is, leb-true none (r .end .value) (sym e ∙ q)));
+      found = λ q. table-found-by P zs most (a .accepts) (tableAt P zs (length zs)) last-held (omega (arith, end-is, m .changes, leb-false none (r .end .value) (sym e ∙ q)));
       inside = inside-wider 0 (tableLimit P most) (omega arith) (omega arith) (m .walked .inside);
     }
 

@@ -17,8 +17,8 @@ ghost use lib.ListN.{length, take, drop};
 ghost use Rattle.model.specs.Held.{Table};
 ghost use Rattle.model.specs.Ends.{leastEndAt};
 ghost use Rattle.model.specs.Result.{costList};
-ghost use Rattle.model.specs.Neighbourhood.{entries, tableOf};
-ghost use Rattle.model.specs.NeighbourhoodLaws.{entryAt};
+ghost use Rattle.model.specs.Index.{reported};
+ghost use Rattle.model.specs.Neighbourhood.{entryOf, entries, tableOf};
 ghost use Rattle.coded.specs.Coded.{Coded};
 ghost use Rattle.layer.specs.Layer.{Shape-small, ShapeOf, placeMost, layerCell};
 ghost use Rattle.back.specs.Read.{Readable, Reads};
@@ -74,7 +74,7 @@ fn put_nothing(ws: &mut [u64], g: Shape)
     let n = labels::COUNTS * g.states;
     let mut q = 0;
     while q < n {
-        curve::constant(ws, q * size, levels, quadratic::NONE);
+        curve::constant(ws, q * size, levels, quadratic::NONE, 0);
         q += 1;
     }
 }
@@ -142,7 +142,7 @@ fn forward(
 // The least cost of the layer at o in the end set, the largest number where there is none.
 fn entry(ws: &[u64], plan: Plan, o: usize, g: Shape) -> u64
     requires { ⌜ Readable 1 o g (now ws) × ShapeOf plan g ⌝ }
-    ensures { λ r. ⌜ ((H : Table) → Reads 1 o g (now (ws .entry)) H → r ≡ entryAt (leastEndAt plan H)) ⌝ }
+    ensures { λ r. ⌜ ((H : Table) → Reads 1 o g (now (ws .entry)) H → r ≡ entryOf (reported (leastEndAt plan H))) ⌝ }
 {
     let end = back::best_end(ws, plan, o, g);
     let least = end.value;

@@ -8,8 +8,7 @@ use lib.IntN.{ℤ, pos, _+ℤ_, _-ℤ_, _*ℤ_}
 use lib.Signed.{_≤ℤ_, _<ℤ_}
 use Rattle.integers.specs.Rep.{le-or-lt, iz, nz, _⊕_, _⊖_, _⊗_, leN, ltN}
 use Rattle.quadratic.specs.Level.{Placed}
-use Rattle.quadratic.specs.declared.Quad.{Quad}
-use Rattle.quadratic.specs.Quad.{Small, Fine, Lowest, Cut, Turns, Stays, Halved, up, down, AtMost, Less, Under, Over}
+use Rattle.quadratic.specs.Quad.{Quad, Small, Fine, Lowest, Cut, Turns, Stays, Halved, up, down, AtMost, Less, Under, Over}
 
 -- ---- a quotient below x + 1 or at least y: the end of [x, y]
 pub cut-low : (p q d x y : ℕ) → x ≤ y → p < d * (x + 1) + q → Cut p q d x y x

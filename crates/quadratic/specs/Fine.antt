@@ -1,23 +1,24 @@
 -- What is in force keeps in range, whatever is done to it, and what its value becomes. Assumes nothing.
 use mathlib.Core.Path.{_≡_, refl, sym, ap, _∙_, subst}
 use mathlib.Core.Logic.{_⊎_, inl, inr, ⊎-elim}
-use mathlib.Core.Bool.{Bool, true, false}
+use mathlib.Core.Bool.{Bool, true, false, cond}
 use Prim.Native.Nat.{ℕ, zero, suc, _+_, _*_, _-_, _≤_, _<_}
 use native.Mathlib.Nat.{mul-le-mul, mul-le-mul-left, mul-le-mul-right}
 use native.Mathlib.Omega.{arith}
-use lib.Dec.{eqb, leb}
-use borrow.Author.Tests.{eq-eqb, ne-eqb, le-leb, lt-leb}
+use lib.Dec.{eqb, leb, ltb}
+use borrow.Author.Tests.{eq-eqb, ne-eqb, le-leb, lt-leb, lt-ltb, le-ltb}
 use lib.IntN.{ℤ, pos, negsuc, natAbs, _+ℤ_, _-ℤ_}
 use Rattle.integers.specs.Rep.{le-or-lt, iz, nz, _⊕_, _⊖_, eqN, above, below}
-use Rattle.quadratic.specs.declared.Quad.{Quad}
-use Rattle.quadratic.specs.Quad.{up, down, value, none, flat, Small, Sized, Fine, pick, raised, pushed, moved, mirrored, better}
+use Rattle.integers.specs.Pairs.{unit, lex}
+use Rattle.quadratic.specs.Quad.{Quad, up, down, cost, value, none, noValue, flat, absent, Small, Sized, Fine, pick, raised, pushed, moved, mirrored, late, better}
 
-mk : ℕ → ℕ → ℕ → Quad
-mk a z c = record { a = a; z = z; c = c }
+mk : ℕ → ℕ → ℕ → ℕ → Quad
+mk a z c k = record { a = a; z = z; c = c; k = k }
 
-pub quad-eq : (p r : Quad) → p .a ≡ r .a → p .z ≡ r .z → p .c ≡ r .c → p ≡ r
+pub quad-eq : (p r : Quad) → p .a ≡ r .a → p .z ≡ r .z → p .c ≡ r .c → p .k ≡ r .k → p ≡ r
 unfolding mk
-quad-eq p r ea ez ec = ap (λ (x : ℕ). mk x (p .z) (p .c)) ea ∙ ap (λ (x : ℕ). mk (r .a) x (p .c)) ez ∙ ap (λ (x : ℕ). mk (r .a) (r .z) x) ec
+quad-eq p r ea ez ec ek =
+    ap (λ (x : ℕ). mk x (p .z) (p .c) (p .k)) ea ∙ ap (λ (x : ℕ). mk (r .a) x (p .c) (p .k)) ez ∙ ap (λ (x : ℕ). mk (r .a) (r .z) x (p .k)) ec ∙ ap (λ (x : ℕ). mk (r .a) (r .z) (r .c) x) ek
 
 pub prod≤ : (a b m n : ℕ) → a ≤ m → b ≤ n → a * b ≤ m * n
 prod≤ a b m n = mul-le-mul
@@ -31,13 +32,13 @@ pub record Bounds (A B v : ℕ) : Type 0 where
 abbrev pub far : ℕ → ℕ → ℕ
 far u v = (u - v) + (v - u)
 
--- none with a number added is none
+-- a value with another added; none with a number added is none
 abbrev pub pickN : Bool → ℕ → ℕ → ℕ
 pickN true a b = a
 pickN false a b = b
 
 abbrev pub plus : ℕ → ℕ → ℕ
-plus k x = pickN (eqb x none) x (x + k)
+plus k x = pickN (eqb x noValue) x (x + k)
 
 module _ {A B v : ℕ} (b : Bounds A B v) {q : Quad} (f : Fine A B q v) where
   av : q .a * v ≤ 1048576 * 262143
@@ -50,55 +51,58 @@ module _ {A B v : ℕ} (b : Bounds A B v) {q : Quad} (f : Fine A B q v) where
   fine-sized = record {
     count = omega (arith, f .count, b .readings);
     sum = omega (arith, f .right, av, f .count, b .readings);
-    rest = ⊎-elim (λ p. omega arith) (λ p. omega (arith, p, avv, av, mul-le-mul-left v (f .right), b .cost)) (f .size);
+    rest = ⊎-elim (λ p. omega (arith, ap (λ (x : Quad). x .c) p)) (λ p. omega (arith, p, avv, av, mul-le-mul-left v (f .right), b .cost)) (f .size);
+    few = omega (arith, f .count, b .readings);
   }
 
   less-none : up q v < down q v + B → q .c < none
   less-none p = omega (arith, p, avv, av, mul-le-mul-left v (f .right), b .cost)
 
-  no-sum : q .a ≡ 0 → q .z ≡ 0
-  no-sum e = omega (arith, rw e at (f .right))
-
   -- none, or a number
-  pub kinds : (q ≡ flat none) ⊎ ((eqb (q .c) none ≡ false) × (up q v < down q v + B))
+  pub kinds : (q ≡ absent) ⊎ ((eqb (q .c) none ≡ false) × (up q v < down q v + B))
   kinds = ⊎-elim
-      (λ p. inl (quad-eq q (flat none) (p .0) (no-sum (p .0)) (p .1)))
+      (λ p. inl p)
       (λ p. inr (ne-eqb (q .c) none (λ e. let h = less-none p in omega arith), p))
       (f .size)
 
-  not-none : up q v < down q v + B → eqb (value q v) none ≡ false
-  not-none p = ne-eqb (value q v) none (λ e. omega (arith, p, b .cost))
+  -- the number of changes leaves the order of pairs
+  pub few : q .k < unit
+  few = omega (arith, f .count, b .readings)
 
-pub value-most : {A B v : ℕ} {q : Quad} → Bounds A B v → Fine A B q v → value q v ≤ none
-value-most {v = v} b f = ⊎-elim (λ e. subst (λ (p : Quad). value p v ≤ none) (sym e) (omega arith)) (λ e. omega (arith, e .1, b .cost)) (kinds b f)
+  not-none : up q v < down q v + B → eqb (value q v) noValue ≡ false
+  not-none p = ne-eqb (value q v) noValue (λ e. omega (arith, p, b .cost, few))
 
-pub fine-none : (A B v : ℕ) → Fine A B (flat none) v
-fine-none A B v = record { count = omega arith; left = omega arith; right = omega arith; whole = omega arith; size = inl (refl, refl) }
+-- what is not there
+pub value-absent : (v : ℕ) → value absent v ≡ noValue
+value-absent v = omega arith
 
-pub fine-flat : (A B v x : ℕ) → x < B → Fine A B (flat x) v
-fine-flat A B v x h = record { count = omega arith; left = omega arith; right = omega arith; whole = omega arith; size = inr (omega arith) }
+pub value-most : {A B v : ℕ} {q : Quad} → Bounds A B v → Fine A B q v → value q v ≤ noValue
+value-most {v = v} b f = ⊎-elim (λ e. subst (λ (p : Quad). value p v ≤ noValue) (sym e) (omega arith)) (λ e. omega (arith, e .1, b .cost, few b f)) (kinds b f)
+
+pub fine-none : (A B v : ℕ) → Fine A B absent v
+fine-none A B v = record { count = omega arith; left = omega arith; right = omega arith; whole = omega arith; size = inl refl }
+
+pub fine-flat : (A B v x k : ℕ) → k ≤ A → x < B → Fine A B (flat x k) v
+fine-flat A B v x k g h = record { count = omega arith; left = omega arith; right = omega arith; whole = omega arith; size = inr (omega arith) }
 
 pub fine-wider : {A B v : ℕ} {q : Quad} (A′ B′ : ℕ) → A ≤ A′ → B ≤ B′ → Fine A B q v → Fine A′ B′ q v
 fine-wider A′ B′ h g f = record { count = omega (arith, f .count); left = f .left; right = f .right; whole = f .whole; size = ⊎-elim (λ p. inl p) (λ p. inr (omega arith)) (f .size) }
 
 -- ---- a number added
-pub fine-raised : {A B v : ℕ} {q : Quad} (k : ℕ) → Bounds A B v → Fine A B q v → Fine A (B + k) (raised k q) v
-fine-raised {A} {B} {v} {q} k b f = ⊎-elim
-    (λ e. subst (λ (p : Quad). Fine A (B + k) (raised k p) v) (sym e) (fine-none A (B + k) v))
-    (λ e. rw (e .0) (let l = e .1 in record { count = f .count; left = f .left; right = f .right; whole = omega (arith, f .whole); size = inr (omega arith) }))
+pub fine-raised : {A B v : ℕ} {q : Quad} (pen ch : ℕ) → Bounds A B v → Fine A B q v → Fine (A + ch) (B + pen) (raised pen ch q) v
+fine-raised {A} {B} {v} {q} pen ch b f = ⊎-elim
+    (λ e. subst (λ (p : Quad). Fine (A + ch) (B + pen) (raised pen ch p) v) (sym e) (fine-none (A + ch) (B + pen) v))
+    (λ e. rw (e .0) (let l = e .1 in record { count = omega (arith, f .count); left = f .left; right = f .right; whole = omega (arith, f .whole); size = inr (omega arith) }))
     (kinds b f)
 
-pub value-raised : {A B v : ℕ} {q : Quad} (k : ℕ) → Bounds A B v → Fine A B q v → value (raised k q) v ≡ plus k (value q v)
-value-raised {A} {B} {v} {q} k b f = ⊎-elim
-    (λ e. subst (λ (p : Quad). value (raised k p) v ≡ plus k (value p v)) (sym e) flat-one)
+pub value-raised : {A B v : ℕ} {q : Quad} (pen ch : ℕ) → Bounds A B v → Fine A B q v → value (raised pen ch q) v ≡ plus (lex pen ch) (value q v)
+value-raised {A} {B} {v} {q} pen ch b f = ⊎-elim
+    (λ e. subst (λ (p : Quad). value (raised pen ch p) v ≡ plus (lex pen ch) (value p v)) (sym e) flat-one)
     (λ e. rw (e .0, not-none b f (e .1)) (omega (arith, f .whole)))
     (kinds b f)
   where
-    at : value (flat none) v ≡ none
-    at = omega arith
-
-    flat-one : value (raised k (flat none)) v ≡ plus k (value (flat none) v)
-    flat-one = rw at
+    flat-one : value (raised pen ch absent) v ≡ plus (lex pen ch) (value absent v)
+    flat-one = rw (value-absent v)
 
 -- ---- a reading added
 pub square : (u v : ℕ) → far u v * far u v + 2 * (u * v) ≡ u * u + v * v
@@ -135,17 +139,14 @@ fine-pushed {A} {B} {v} {q} w u h b f = ⊎-elim
     far² : far u v * far u v ≤ 65535 * 65535
     far² = mul-le-mul h h
 
-pub value-pushed : {A B v : ℕ} {q : Quad} (w u : ℕ) → Bounds A B v → Fine A B q v → value (pushed w u q) v ≡ plus (w * (far u v * far u v)) (value q v)
+pub value-pushed : {A B v : ℕ} {q : Quad} (w u : ℕ) → Bounds A B v → Fine A B q v → value (pushed w u q) v ≡ plus (unit * (w * (far u v * far u v))) (value q v)
 value-pushed {A} {B} {v} {q} w u b f = ⊎-elim
-    (λ e. subst (λ (p : Quad). value (pushed w u p) v ≡ plus (w * (far u v * far u v)) (value p v)) (sym e) flat-one)
+    (λ e. subst (λ (p : Quad). value (pushed w u p) v ≡ plus (unit * (w * (far u v * far u v))) (value p v)) (sym e) flat-one)
     (λ e. rw (e .0, not-none b f (e .1)) (omega (arith, f .whole, ap (λ (x : ℕ). w * x) (square u v))))
     (kinds b f)
   where
-    at : value (flat none) v ≡ none
-    at = omega arith
-
-    flat-one : value (pushed w u (flat none)) v ≡ plus (w * (far u v * far u v)) (value (flat none) v)
-    flat-one = rw at
+    flat-one : value (pushed w u absent) v ≡ plus (unit * (w * (far u v * far u v))) (value absent v)
+    flat-one = rw (value-absent v)
 
 -- ---- levels moved
 moved-is : (a z c g v : ℕ) → a * ((v + g) * (v + g)) + (c + (2 * (z * g) + a * (g * g))) + 2 * (z * v) ≡ a * (v * v) + c + 2 * ((z + a * g) * (v + g))
@@ -159,11 +160,8 @@ fine-moved {A} {B} {v} {q} g f =
       left = omega (arith, f .left);
       right = omega (arith, f .right);
       whole = omega (arith, f .whole);
-      size = ⊎-elim (λ p. inl (p .0, rest (p .0) (p .1))) (λ p. inr (omega arith)) (f .size);
+      size = ⊎-elim (λ p. inl (ap (moved g) p ∙ quad-eq (moved g absent) absent (omega arith) (omega arith) (omega arith) refl)) (λ p. inr (omega arith)) (f .size);
     }
-  where
-    rest : q .a ≡ 0 → q .c ≡ none → q .c + (2 * (q .z * g) + q .a * (g * g)) ≡ none
-    rest e h = let z : q .z ≡ 0 = omega (arith, rw e at (f .right)) in rw (e, z) (omega arith)
 
 pub value-moved : {A B v : ℕ} {q : Quad} (g : ℕ) → Fine A B q v → value (moved g q) (v + g) ≡ value q v
 value-moved {A} {B} {v} {q} g f = omega (arith, f .whole, moved-is (q .a) (q .z) (q .c) g v)
@@ -190,24 +188,39 @@ module _ {A B v : ℕ} {q : Quad} (w : ℕ) (h : 131070 ≤ w) (f : Fine A B q v
         left = omega (arith, f .right);
         right = omega (arith, f .left);
         whole = omega (arith, f .whole);
-        size = ⊎-elim (λ p. inl (p .0, rest (p .0) (p .1))) (λ p. inr (omega arith)) (f .size);
+        size = ⊎-elim (λ p. inl (ap (mirrored (v + w)) p ∙ quad-eq (mirrored (v + w) absent) absent (omega arith) (omega arith) (omega arith) refl)) (λ p. inr (omega arith)) (f .size);
       }
-    where
-      rest : q .a ≡ 0 → q .c ≡ none → q .a * ((v + w) * (v + w)) + q .c - 2 * (q .z * (v + w)) ≡ none
-      rest e g = let z : q .z ≡ 0 = omega (arith, rw e at (f .right)) in rw (e, z) (omega arith)
 
   pub value-mirrored : value (mirrored (v + w) q) w ≡ value q v
   value-mirrored = omega (arith, f .whole, mirrored-is)
 
 -- ---- the better of two
-pub value-better : {A B v : ℕ} {p q : Quad} → Fine A B p v → Fine A B q v → value (better v p q) v ≡ pickN (leb (value p v) (value q v)) (value p v) (value q v)
-value-better {v = v} {p = p} {q = q} f g = ⊎-elim
-    (λ h. rw (le-leb (up p v + down q v) (up q v + down p v) h, le-leb (value p v) (value q v) (omega (arith, f .whole, g .whole))))
-    (λ h. rw (lt-leb (up p v + down q v) (up q v + down p v) h, lt-leb (value p v) (value q v) (omega (arith, f .whole, g .whole))))
-    (le-or-lt (up p v + down q v) (up q v + down p v))
+
+pub late-most : (i j : ℕ) → late i j ≤ 1
+late-most i j = go (ltb j i)
+  where
+    go : (b : Bool) → cond b 1 0 ≤ 1
+    go true = omega arith
+    go false = omega arith
+
+-- a pair is at most another exactly where its cost, with one more if its changes are more, is
+pub late-is : (x i y j : ℕ) → i < unit → j < unit → (x + late i j ≤ y → lex x i ≤ lex y j) × (y < x + late i j → lex y j < lex x i)
+late-is x i y j hi hj = ⊎-elim
+    (λ h. rw (le-ltb j i h) (λ p. omega arith, λ p. omega arith))
+    (λ h. rw (lt-ltb j i h) (λ p. omega arith, λ p. omega arith))
+    (le-or-lt i j)
+
+pub value-better : {A B v : ℕ} {p q : Quad} → Bounds A B v → Fine A B p v → Fine A B q v → value (better v p q) v ≡ pickN (leb (value p v) (value q v)) (value p v) (value q v)
+value-better {v = v} {p = p} {q = q} b f g = ⊎-elim
+    (λ h. rw (le-leb (up p v + down q v + late (p .k) (q .k)) (up q v + down p v) h, le-leb (value p v) (value q v) (order .0 (omega (arith, f .whole, g .whole)))))
+    (λ h. rw (lt-leb (up p v + down q v + late (p .k) (q .k)) (up q v + down p v) h, lt-leb (value p v) (value q v) (order .1 (omega (arith, f .whole, g .whole)))))
+    (le-or-lt (up p v + down q v + late (p .k) (q .k)) (up q v + down p v))
+  where
+    order : (cost p v + late (p .k) (q .k) ≤ cost q v → value p v ≤ value q v) × (cost q v < cost p v + late (p .k) (q .k) → value q v < value p v)
+    order = late-is (cost p v) (p .k) (cost q v) (q .k) (few b f) (few b g)
 
 pub fine-better : {A B v : ℕ} {p q : Quad} → Fine A B p v → Fine A B q v → Fine A B (better v p q) v
-fine-better {A} {B} {v} {p} {q} f g = chosen (leb (up p v + down q v) (up q v + down p v))
+fine-better {A} {B} {v} {p} {q} f g = chosen (leb (up p v + down q v + late (p .k) (q .k)) (up q v + down p v))
   where
     chosen : (b : Bool) → Fine A B (pick b p q) v
     chosen true = f

@@ -6,8 +6,7 @@ use native.Mathlib.Omega.{arith}
 use lib.Dec.{leb, ltb}
 use borrow.Author.Tests.{le-leb, lt-leb, lt-ltb, le-ltb}
 use Rattle.integers.specs.Rep.{le-or-lt}
-use Rattle.quadratic.specs.declared.Quad.{Quad}
-use Rattle.quadratic.specs.Quad.{up, down, AtMost, Less, Under, Over, Lowest, Stays}
+use Rattle.quadratic.specs.Quad.{Quad, up, down, AtMost, Less, Under, Over, Lowest, Stays}
 use Rattle.quadratic.specs.Fine.{pickN}
 
 -- m where q is less there than at p, else p

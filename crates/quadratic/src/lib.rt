@@ -1,23 +1,28 @@
 // Whole-number quadratics a v² - 2 z v + c on the places v = m + 163840 of signed levels m. With that bias no coefficient falls
 // below zero under shifts and mirrors, so a, z and c are unsigned. Crossings and turning points are computed on the signed levels, by
-// floor division.
+// floor division. Beside them stands k, the number of changes behind it, which decides between equal costs: only `raise` adds to it. Code keeps a and k
+// together in one word, as the workspace does, and takes them apart where one of them is looked at: quicker than four numbers (docs/BENCHMARK.md).
 //
 // An inner crate: each function requires the range of its quadratics (`Small`), and the callers' invariant (`Fine`) gives it.
 // specs/Fine.antt has the laws that each operation keeps the invariant, and what it does to the value.
 ghost use mathlib.Core.Path.{_≡_};
 ghost use mathlib.Core.Bool.{true, false};
 ghost use Prim.Native.Nat.{ℕ, _+_, _*_, _-_, _≤_, _<_};
-ghost use lib.Dec.{leb};
+ghost use lib.Dec.{leb, ltb};
 ghost use lib.IntN.{pos, _-ℤ_};
+ghost use Rattle.integers.specs.Pairs.{unit, lex};
 ghost use Rattle.quadratic.specs.Level.{Placed};
 ghost use Rattle.quadratic.specs.Places.{lowestPlace, lastUnder};
-ghost use Rattle.quadratic.specs.Quad.{Small, Fine, Lowest, Cut, Turns, Stays, Halved, raised, pushed, moved, mirrored, up, down, Under, Over, value};
+ghost use Rattle.quadratic.specs.Quad.{quad, Small, Fine, Lowest, Cut, Turns, Stays, Halved, raised, pushed, moved, mirrored, up, down, Under, Over, cost, late};
 
 // The cost of what is not there, 2^60: sums and minima treat it as a number, `raise` and `add_square` leave it.
 pub const NONE: u64 = 1152921504606846976;
 
-pub struct Quad {
-    pub a: u64,
+// One change more, in the word that has a and k: w = a + 2^32 k.
+pub const CHANGE: u64 = 4294967296;
+
+pub struct Packed {
+    pub w: u64,
     pub z: u64,
     pub c: u64,
 }
@@ -38,19 +43,35 @@ fn fall(z: u64, v: u64) -> u64
 }
 
 // The value at v.
-pub fn eval(q: Quad, v: u64) -> u64
-    requires { ⌜ Small q × ((v < 262144) × (down q v ≤ up q v)) ⌝ }
-    ensures { λ r. ⌜ r ≡ value q v ⌝ }
+pub fn eval(q: Packed, v: u64) -> u64
+    requires { ⌜ Small (quad q) × ((v < 262144) × (down (quad q) v ≤ up (quad q) v)) ⌝ }
+    ensures { λ r. ⌜ (r ≡ cost (quad q) v) × (r ≤ 2377900603251621888) ⌝ }
 {
-    rise(q.a, q.c, v) - fall(q.z, v)
+    rise(q.w % CHANGE, q.c, v) - fall(q.z, v)
 }
 
 // Whether w is at most l at v.
-pub fn under(w: Quad, l: Quad, v: u64) -> bool
-    requires { ⌜ Small w × (Small l × (v < 262144)) ⌝ }
-    ensures { λ r. ⌜ r ≡ leb (up w v + down l v) (up l v + down w v) ⌝ }
+pub fn under(w: Packed, l: Packed, v: u64) -> bool
+    requires { ⌜ Small (quad w) × (Small (quad l) × (v < 262144)) ⌝ }
+    ensures { λ r. ⌜ r ≡ leb (up (quad w) v + down (quad l) v) (up (quad l) v + down (quad w) v) ⌝ }
 {
-    rise(w.a, w.c, v) + fall(l.z, v) <= rise(l.a, l.c, v) + fall(w.z, v)
+    rise(w.w % CHANGE, w.c, v) + fall(l.z, v) <= rise(l.w % CHANGE, l.c, v) + fall(w.z, v)
+}
+
+// 1 where the first number of changes is more: by so much its cost has to be less to come first.
+pub fn more_changes(i: u64, j: u64) -> u64
+    ensures { λ r. ⌜ r ≡ late i j ⌝ }
+{
+    if j < i { 1 } else { 0 }
+}
+
+// The cost x with i changes comes before the cost y with j: it is cheaper, or as cheap with fewer changes. One sum and one comparison are quicker than two
+// comparisons.
+pub fn comes_first(x: u64, i: u64, y: u64, j: u64) -> bool
+    requires { ⌜ (i < unit) × ((j < unit) × (x ≤ 4611686018427387904)) ⌝ }
+    ensures { λ r. ⌜ r ≡ ltb (lex x i) (lex y j) ⌝ }
+{
+    x + 1 - more_changes(j, i) <= y
 }
 
 // p less q, signed.
@@ -105,24 +126,25 @@ fn turning_point(e: u64, f: u64, g: u64, x: u64, y: u64) -> u64
 }
 
 // The lowest level of [x, y] at which q is least.
-pub fn lowest_min(q: Quad, x: u64, y: u64) -> u64
-    requires { ⌜ Small q × ((x ≤ y) × (y < 262144)) ⌝ }
-    ensures { λ r. ⌜ (r ≡ lowestPlace q x (y - x)) × Lowest q x y r ⌝ }
+pub fn lowest_min(q: Packed, x: u64, y: u64) -> u64
+    requires { ⌜ Small (quad q) × ((x ≤ y) × (y < 262144)) ⌝ }
+    ensures { λ r. ⌜ (r ≡ lowestPlace (quad q) x (y - x)) × Lowest (quad q) x y r ⌝ }
 {
-    if q.a == 0 {
+    let a = q.w % CHANGE;
+    if a == 0 {
         if q.z == 0 {
             return x;
         }
         return y;
     }
-    turning_point(q.a, q.z, 0, x, y)
+    turning_point(a, q.z, 0, x, y)
 }
 
 // The last place at which w is at most l, where it is so at lo, not so at hi, and changes once between.
-fn bisect(w: Quad, l: Quad, lo: u64, hi: u64) -> u64
-    requires { ⌜ (Small w × Small l) × ((lo < hi) × (hi < 262144)) ⌝ }
-    requires { ⌜ Under w l lo × Over w l hi ⌝ }
-    ensures { λ r. ⌜ Halved w l lo hi r ⌝ }
+fn bisect(w: Packed, l: Packed, lo: u64, hi: u64) -> u64
+    requires { ⌜ (Small (quad w) × Small (quad l)) × ((lo < hi) × (hi < 262144)) ⌝ }
+    requires { ⌜ Under (quad w) (quad l) lo × Over (quad w) (quad l) hi ⌝ }
+    ensures { λ r. ⌜ Halved (quad w) (quad l) lo hi r ⌝ }
 {
     let mut b = lo;
     let mut e = hi;
@@ -138,19 +160,21 @@ fn bisect(w: Quad, l: Quad, lo: u64, hi: u64) -> u64
 }
 
 // How far from x on w stays at most l: the last place before it is over, or y.
-pub fn crossing(w: Quad, l: Quad, x: u64, y: u64) -> u64
-    requires { ⌜ (Small w × Small l) × ((x ≤ y) × (y < 262144)) ⌝ }
-    requires { ⌜ Under w l x ⌝ }
-    ensures { λ r. ⌜ (r ≡ lastUnder w l x (y - x)) × Stays w l x y r ⌝ }
+pub fn crossing(w: Packed, l: Packed, x: u64, y: u64) -> u64
+    requires { ⌜ (Small (quad w) × Small (quad l)) × ((x ≤ y) × (y < 262144)) ⌝ }
+    requires { ⌜ Under (quad w) (quad l) x ⌝ }
+    ensures { λ r. ⌜ (r ≡ lastUnder (quad w) (quad l) x (y - x)) × Stays (quad w) (quad l) x y r ⌝ }
 {
-    if w.a == l.a {
+    let a = w.w % CHANGE;
+    let b = l.w % CHANGE;
+    if a == b {
         if l.z <= w.z {
             return y;
         }
         return cut(l.c, w.c, 2 * (l.z - w.z), x, y);
     }
-    if w.a < l.a {
-        let k = turning_point(l.a - w.a, l.z, w.z, x, y);
+    if a < b {
+        let k = turning_point(b - a, l.z, w.z, x, y);
         if under(w, l, k) {
             return y;
         }
@@ -162,32 +186,32 @@ pub fn crossing(w: Quad, l: Quad, x: u64, y: u64) -> u64
     bisect(w, l, x, y)
 }
 
-// q with k more at every level; none stays none.
-pub fn raise(q: Quad, k: u64) -> Quad
-    requires { ⌜ Small q × (k ≤ 1152921504606846976) ⌝ }
-    ensures { λ r. ⌜ r ≡ raised k q ⌝ }
+// q with pen more at every level, and ch changes more; none stays none.
+pub fn raise(q: Packed, pen: u64, ch: u64) -> Packed
+    requires { ⌜ Small (quad q) × ((pen ≤ 1152921504606846976) × (ch ≤ 1048576)) ⌝ }
+    ensures { λ r. ⌜ quad r ≡ raised pen ch (quad q) ⌝ }
 {
     if q.c == NONE {
         q
     } else {
-        Quad {
-            a: q.a,
+        Packed {
+            w: q.w + CHANGE * ch,
             z: q.z,
-            c: q.c + k,
+            c: q.c + pen,
         }
     }
 }
 
 // q with w times the square (u - v)² more: one reading of weight w more; none stays none.
-pub fn add_square(q: Quad, u: u64, w: u64) -> Quad
-    requires { ⌜ Small q × ((u < 262144) × (w < 256)) ⌝ }
-    ensures { λ r. ⌜ r ≡ pushed w u q ⌝ }
+pub fn add_square(q: Packed, u: u64, w: u64) -> Packed
+    requires { ⌜ Small (quad q) × ((u < 262144) × (w < 256)) ⌝ }
+    ensures { λ r. ⌜ quad r ≡ pushed w u (quad q) ⌝ }
 {
     if q.c == NONE {
         q
     } else {
-        Quad {
-            a: q.a + w,
+        Packed {
+            w: q.w + w,
             z: q.z + w * u,
             c: q.c + w * (u * u),
         }
@@ -195,26 +219,28 @@ pub fn add_square(q: Quad, u: u64, w: u64) -> Quad
 }
 
 // q with every level moved up by g.
-pub fn shift(q: Quad, g: u64) -> Quad
-    requires { ⌜ Small q × (g < 1024) ⌝ }
-    ensures { λ r. ⌜ r ≡ moved g q ⌝ }
+pub fn shift(q: Packed, g: u64) -> Packed
+    requires { ⌜ Small (quad q) × (g < 1024) ⌝ }
+    ensures { λ r. ⌜ quad r ≡ moved g (quad q) ⌝ }
 {
-    Quad {
-        a: q.a,
-        z: q.z + q.a * g,
-        c: q.c + (2 * (q.z * g) + q.a * (g * g)),
+    let a = q.w % CHANGE;
+    Packed {
+        w: q.w,
+        z: q.z + a * g,
+        c: q.c + (2 * (q.z * g) + a * (g * g)),
     }
 }
 
 // q with each level v at the place of s - v.
-pub fn mirror(q: Quad, s: u64) -> Quad
-    requires { ⌜ Small q × (s < 524288) ⌝ }
-    requires { ⌜ (q .z ≤ q .a * s) × (2 * (q .z * s) ≤ q .a * (s * s) + q .c) ⌝ }
-    ensures { λ r. ⌜ r ≡ mirrored s q ⌝ }
+pub fn mirror(q: Packed, s: u64) -> Packed
+    requires { ⌜ Small (quad q) × (s < 524288) ⌝ }
+    requires { ⌜ (q .z ≤ quad q .a * s) × (2 * (q .z * s) ≤ quad q .a * (s * s) + q .c) ⌝ }
+    ensures { λ r. ⌜ quad r ≡ mirrored s (quad q) ⌝ }
 {
-    Quad {
-        a: q.a,
-        z: q.a * s - q.z,
-        c: q.a * (s * s) + q.c - 2 * (q.z * s),
+    let a = q.w % CHANGE;
+    Packed {
+        w: q.w,
+        z: a * s - q.z,
+        c: a * (s * s) + q.c - 2 * (q.z * s),
     }
 }

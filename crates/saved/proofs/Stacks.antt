@@ -19,7 +19,7 @@ use Rattle.curve.specs.Pieces.{Held}
 use Rattle.curve.specs.Lists.{count-same}
 use Rattle.curve.specs.Curve.{Curve, curve-same}
 use Rattle.model.specs.Held.{Table}
-use Rattle.layer.specs.Layer.{stepMost, baseOf, listAt, LayerOf, Layer}
+use Rattle.layer.specs.Layer.{readingMost, countMost, baseOf, listAt, LayerOf, Layer}
 use Rattle.saved.specs.Packed.{Chain, Inside, Row, Packing, Unpacked}
 use Rattle.saved.specs.Walk.{mostSlots, tableSize, stackAt, limit, Packed, Entry, Stack, timeOf, offOf, Pushed, Dropped}
 use Rattle.saved.proofs.Chains.{chain-low, chain-next, chain-part, chain-same}
@@ -83,7 +83,7 @@ module _ {P : Plan} {zs : List ℤ} {t : ℕ} where
       there : Chain (width P) ws′ a (usedAt P t * P .states) e
       there = chain-same z f (y .chain)
 
-      each : (k s m : ℕ) → k < usedAt P t → s < P .states → Chain (width P) ws′ a (k * P .states + s) m → Curve t (t * stepMost) (baseOf P) (width P) ws′ m (tableAt P zs t k s)
+      each : (k s m : ℕ) → k < usedAt P t → s < P .states → Chain (width P) ws′ a (k * P .states + s) m → Curve (t * countMost) (t * readingMost) (baseOf P) (width P) ws′ m (tableAt P zs t k s)
       each k s m hk hs d =
           let n = list-number (usedAt P t) (P .states) k s hk hs in
           let b = chain-next there d n in

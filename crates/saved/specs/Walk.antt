@@ -12,7 +12,7 @@ use Rattle.model.specs.Labels.{counts, usedAt}
 use Rattle.model.specs.Ends.{tableAt}
 use Rattle.curve.specs.Curve.{Curve}
 use Rattle.layer.specs.declared.Shape.{Shape}
-use Rattle.layer.specs.Layer.{tempWords, stepMost, baseOf, placeMost, layerCell, layerWords, ShapeOf, Layer}
+use Rattle.layer.specs.Layer.{tempWords, readingMost, countMost, baseOf, placeMost, layerCell, layerWords, ShapeOf, Layer}
 use Rattle.layer.specs.Next.{Task}
 use Rattle.saved.specs.declared.Walk.{Walk}
 use Rattle.saved.specs.Packed.{Chain, Inside, Row}
@@ -41,7 +41,7 @@ tableSize = 2 * mostSlots + 1
 -- the layer after t readings stands packed from a up to e, in the order of its lists
 pub record Packed (P : Plan) (zs : List ℤ) (t : ℕ) (ws : List ℕ) (a e : ℕ) : Type 0 where
   pub chain : Chain (width P) ws a (usedAt P t * P .states) e
-  pub list : (k s m : ℕ) → k < usedAt P t → s < P .states → Chain (width P) ws a (k * P .states + s) m → Curve t (t * stepMost) (baseOf P) (width P) ws m (tableAt P zs t k s)
+  pub list : (k s m : ℕ) → k < usedAt P t → s < P .states → Chain (width P) ws a (k * P .states + s) m → Curve (t * countMost) (t * readingMost) (baseOf P) (width P) ws m (tableAt P zs t k s)
 
 -- the table of saved layers: entry i is the layer after timeOf T i readings, packed from offOf T i up to offOf T (i + 1)
 abbrev pub timeOf : List ℕ → ℕ → ℕ

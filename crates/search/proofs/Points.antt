@@ -3,7 +3,7 @@ use mathlib.Core.Path.{_≡_, refl, sym, _∙_, ap, subst}
 use mathlib.Core.List.{List, _++_}
 use mathlib.Core.Bool.{true}
 use mathlib.Core.Option.{some}
-use Prim.Native.Nat.{ℕ, _+_, _-_, _≤_, _<_}
+use Prim.Native.Nat.{ℕ, _+_, _-_, _/_, _≤_, _<_}
 use native.Mathlib.Omega.{arith}
 use lib.IntN.{ℤ, pos, _+ℤ_}
 use lib.ListN.{length, getD, drop, replicate}
@@ -17,7 +17,9 @@ use Rattle.model.specs.Model.{width, above}
 use Rattle.model.specs.Grid.{grid-index}
 use Rattle.model.specs.Refusals.{pointNumber}
 use Rattle.model.specs.Checked.{Checked, accepted-point, point-not-16}
-use Rattle.model.specs.Index.{noCost, held, some-held, none-held}
+use Rattle.integers.specs.Pairs.{unit}
+use Rattle.quadratic.specs.Quad.{none}
+use Rattle.model.specs.Index.{noCost, reported, reported-some, reported-none}
 use Rattle.model.specs.Held.{Table}
 use Rattle.model.specs.Labels.{usedAt}
 use Rattle.model.specs.Ends.{tableAt, pointAt, point-by}
@@ -79,30 +81,33 @@ module _ (P : Plan) (zs : List ℤ) (s : ℕ) (m : ℤ) {g : Shape} {ws : List �
         (omega (arith, accepted-point P (length zs) s m (a .accepts) .state, task .shape .states), omega (arith, index-is, on-grid .0, task .shape .levels)),
       )
 
-      module _ {n c : ℕ} (en : n ≡ usedAt P (length zs)) (f : (H : Table) → Reads n (w .cur) g ws′ H → c ≡ pointAt n H s (v - g .base)) where
+      module _ {n c : ℕ} (en : n ≡ usedAt P (length zs)) (f : (H : Table) → Reads n (w .cur) g ws′ H → c ≡ pointAt n H s (v - g .base) / unit) where
         abbrev last-table : Table
         last-table = tableAt P zs (length zs)
 
-        least-is : c ≡ pointAt (usedAt P (length zs)) last-table s (above (P .lo) m)
+        -- the least over the counts, with its changes
+        abbrev least : ℕ
+        least = pointAt (usedAt P (length zs)) last-table s (above (P .lo) m)
+
+        least-is : c ≡ least / unit
         least-is =
             f last-table (subst (λ (x : ℕ). Reads x (w .cur) g ws′ last-table) (sym en) (layer-reads task layer-now))
-            ∙ ap (λ (x : ℕ). pointAt n last-table s x) index-is ∙ ap (λ (x : ℕ). pointAt x last-table s (above (P .lo) m)) en
+            ∙ ap (λ (x : ℕ). pointAt n last-table s x / unit) index-is ∙ ap (λ (x : ℕ). pointAt x last-table s (above (P .lo) m) / unit) en
 
-        result-is : resultOf P zs (point s m) ≡ foundCost (held c)
+        result-is : resultOf P zs (point s m) ≡ foundCost (reported least)
         result-is =
             let e = on-grid .1 in
             ap (λ (x : ℤ). resultOf P zs (point s x)) (sym e)
             ∙ point-by P zs s (above (P .lo) m) (ap (λ (x : ℤ). pointNumber P (length zs) s x) e ∙ a .accepts) (on-grid .0) last-table (table-held P zs (task .ready) (length zs) (a .space .some) (task .ready .few-readings))
-            ∙ ap (λ (x : ℕ). foundCost (held x)) (sym least-is)
 
         told : {r : Cost} (q : Result) → resultOf P zs (point s m) ≡ q → r ≡ costOf q → looked q ≡ true → Told P zs s m r ws ws′
         told q e h l = record { answer = h ∙ ap costOf (sym e); looks = ap looked e ∙ l; inside = walked .inside }
 
-        pub told-none : noCost ≤ c → Told P zs s m (Refusal 16) ws ws′
-        told-none h = told (refused 16) (result-is ∙ ap foundCost (none-held c h)) refl refl
+        pub told-none : none ≤ c → Told P zs s m (Refusal 16) ws ws′
+        told-none h = told (refused 16) (result-is ∙ ap foundCost (reported-none least (omega (arith, least-is)))) refl refl
 
-        pub told-least : c < noCost → Told P zs s m (Least c) ws ws′
-        told-least h = told _ (result-is ∙ ap foundCost (some-held c h)) refl refl
+        pub told-least : c < none → Told P zs s m (Least c) ws ws′
+        told-least h = told _ (result-is ∙ ap foundCost (reported-some least (omega (arith, least-is)))) (ap Least least-is) refl
 
 -- ---- what the call knows once no number refuses
 

@@ -19,7 +19,8 @@ use Rattle.model.specs.RunLaws.{numbers-length}
 use Rattle.model.specs.Labels.{labelOn, used-some}
 use Rattle.model.specs.Refusals.{searchNumber}
 use Rattle.model.specs.Result.{Result, found, whole, resultOf}
-use Rattle.model.specs.Index.{noCost}
+use Rattle.quadratic.specs.Quad.{none}
+use Rattle.curve.specs.Lows.{few}
 use Rattle.model.specs.Held.{Table}
 use Rattle.model.specs.Ends.{tableAt, walk-first, losses-low}
 use Rattle.model.specs.Tables.{Ready, ready-search}
@@ -38,7 +39,7 @@ use Rattle.trace.specs.Trace.{nodeAt}
 use Rattle.search.specs.declared.Ended.{Ended}
 use Rattle.search.specs.declared.Found.the-variants.{Segmentation, Refused}
 use Rattle.search.specs.Search.{workWords, foundOf, runsAfter, looked}
-use Rattle.search.specs.Cheapest.{Reaches, cheapest-none, cheapest-some, end-cost}
+use Rattle.search.specs.Cheapest.{Reaches, cheapest-none, cheapest-some, end-low, end-cost}
 use Rattle.search.specs.Way.{WayReady, WayTo, Finished}
 use Rattle.search.specs.Solve.{Solvable, Solved}
 use Rattle.search.proofs.Ways.{still-space, place-low}
@@ -61,8 +62,8 @@ module _ {P : Plan} {zs : List ℤ} {g : Shape} {ws T ws′ : List ℕ} {w : Wal
   pub may-read : Readable 1 (w .cur) g ws′ × ShapeOf P g
   may-read = (readable-fewer (used-some (labelOn P (length zs))) (layer-readable (a .task) layer-now (place-low (a .task) (m .at)) (a .task .ready .few-readings)), a .task .shape)
 
-  pub reaches : {e : End} → ((H : Table) → Reads 1 (w .cur) g ws′ H → EndTo P H (P .states) e) → Reaches P zs T ws ws′ (record { walk = w; end = e })
-  reaches f = record { walked = m; ends = f (tableAt P zs (length zs)) (reads-fewer (used-some (labelOn P (length zs))) (layer-reads (a .task) layer-now)) }
+  pub reaches : {e : End} → (e .changes ≤ few) × ((H : Table) → Reads 1 (w .cur) g ws′ H → EndTo P H (P .states) e) → Reaches P zs T ws ws′ (record { walk = w; end = e })
+  reaches (h, f) = record { walked = m; changes = h; ends = f (tableAt P zs (length zs)) (reads-fewer (used-some (labelOn P (length zs))) (layer-reads (a .task) layer-now)) }
 
 module _ {P : Plan} {zs : List ℤ} {g : Shape} {ws : List ℕ} {out : List ℤ} (a : Solvable P zs g ws out) {T ws′ : List ℕ} {r : Ended} (m : Reaches P zs T ws ws′ r) where
   abbrev task : Task P zs g
@@ -71,14 +72,14 @@ module _ {P : Plan} {zs : List ℤ} {g : Shape} {ws : List ℕ} {out : List ℤ}
   abbrev e : End
   e = r .end
 
-  pub none-found : noCost ≤ e .value → Solved P zs (Refused 16) ws ws′ out out
+  pub none-found : none ≤ e .value → Solved P zs (Refused 16) ws ws′ out out
   none-found h =
       let q = cheapest-none (a .accepts) (a .space) m h in
       record { answer = ap foundOf (sym q); runs = ap (λ (r : Result). runsAfter r out) (sym q); looks = ap looked q; inside = m .walked .inside }
 
-  module _ (low : e .value < noCost) where
+  module _ (low : e .value < none) where
     abbrev from : Point
-    from = record { count = 0; state = e .state; level = e .level; value = e .value; last = length zs; runs = 0 }
+    from = record { count = 0; state = e .state; level = e .level; value = e .value; changes = e .changes; last = length zs; runs = 0 }
 
     pub way-ready : WayReady P zs g (r .walk) from T ws′ out
     way-ready = record {
@@ -86,7 +87,7 @@ module _ {P : Plan} {zs : List ℤ} {g : Shape} {ws : List ℕ} {out : List ℤ}
       at = m .walked .at;
       stack = m .walked .stack;
       time = m .walked .time;
-      here = record { count = omega arith; state = m .ends .state low; level = m .ends .level low; is = end-cost (a .accepts) (a .space) m low; some = low };
+      here = let h = end-low (a .accepts) (a .space) m low in record { count = omega arith; state = m .ends .state h; level = m .ends .level h; is = end-cost (a .accepts) (a .space) m low; some = h; changes = m .changes };
       last = refl;
       none = refl;
       room = a .room;

@@ -1,10 +1,13 @@
 -- The forward half of the search: the layer after the last reading and its cheapest end, which alone tell the cost or 16. Assumes nothing.
 use mathlib.Core.Path.{_≡_, sym, _∙_, ap}
 use mathlib.Core.List.{List, reverse}
-use Prim.Native.Nat.{ℕ, _≤_, _<_}
+use Prim.Native.Nat.{ℕ, _/_, _≤_, _<_}
 use native.Mathlib.Omega.{arith}
 use lib.IntN.{ℤ, pos, _+ℤ_}
 use lib.ListN.{length}
+use Rattle.integers.specs.Pairs.{unit}
+use Rattle.quadratic.specs.Quad.{none}
+use Rattle.curve.specs.Lows.{few}
 use Rattle.plan.specs.declared.Plan.{Plan}
 use Rattle.model.specs.Run.{numbers}
 use Rattle.model.specs.Runs.{walkBack}
@@ -17,12 +20,13 @@ use Rattle.model.specs.Ends.{tableAt, leastEndAt, none-by, found-by}
 use Rattle.model.specs.Tables.{table-held, end-is}
 use Rattle.layer.specs.declared.Shape.{Shape}
 use Rattle.saved.specs.Walk.{Workspace, Walked}
-use Rattle.back.specs.Read.{EndTo}
+use Rattle.back.specs.Read.{endOf, EndTo}
 use Rattle.search.specs.declared.Ended.{Ended}
 
 pub record Reaches (P : Plan) (zs : List ℤ) (T ws ws′ : List ℕ) (r : Ended) : Type 0 where
   pub walked : Walked P zs (length zs) T ws ws′ (r .walk)
   pub ends : EndTo P (tableAt P zs (length zs)) (P .states) (r .end)
+  pub changes : r .end .changes ≤ few
 
 module _ {P : Plan} {zs : List ℤ} {g : Shape} {T ws ws′ : List ℕ} {r : Ended} (accepts : searchNumber P (length zs) ≡ 0) (space : Workspace P zs g ws) (a : Reaches P zs T ws ws′ r) where
   abbrev last-table : Table
@@ -31,16 +35,19 @@ module _ {P : Plan} {zs : List ℤ} {g : Shape} {T ws ws′ : List ℕ} {r : End
   hold : Holding P zs (length zs) last-table
   hold = table-held P zs (space .task .ready) (length zs) (space .some) (space .task .ready .few-readings)
 
-  least-is : r .end .value ≡ leastEndAt P last-table
+  least-is : endOf (r .end) ≡ leastEndAt P last-table
   unfolding leastEndAt
   least-is = a .ends .is
 
-  pub cheapest-none : noCost ≤ r .end .value → resultOf P zs whole ≡ refused 16
+  pub cheapest-none : none ≤ r .end .value → resultOf P zs whole ≡ refused 16
   cheapest-none h = none-by P zs accepts last-table hold (omega (arith, least-is))
 
-  module _ (low : r .end .value < noCost) where
+  module _ (low : r .end .value < none) where
+    pub end-low : endOf (r .end) < noCost
+    end-low = omega (arith, a .changes)
+
     low-now : leastEndAt P last-table < noCost
-    low-now = omega (arith, least-is)
+    low-now = omega (arith, least-is, end-low)
 
     -- the runs of the way back from the end, which nothing has computed yet
     abbrev pub runsBack : List ℤ
@@ -48,10 +55,13 @@ module _ {P : Plan} {zs : List ℤ} {g : Shape} {T ws ws′ : List ℕ} {r : End
 
     pub cheapest-some : resultOf P zs whole ≡ found (r .end .value) runsBack
     cheapest-some =
-        found-by P zs accepts last-table hold (r .end .state) (r .end .level) (a .ends .state low) (a .ends .level low) low-now (a .ends .met low ∙ least-is)
-        (λ s j hs hj q. a .ends .lowest low s j hs hj (q ∙ sym least-is))
-        ∙ ap (λ (x : ℕ). found x runsBack) (sym least-is)
+        found-by P zs accepts last-table hold (r .end .state) (r .end .level) (a .ends .state end-low) (a .ends .level end-low) low-now (a .ends .met end-low ∙ least-is)
+        (λ s j hs hj q. a .ends .lowest end-low s j hs hj (q ∙ sym least-is))
+        ∙ ap (λ (x : ℕ). found x runsBack) cost-is
+      where
+        cost-is : leastEndAt P last-table / unit ≡ r .end .value
+        cost-is = omega (arith, least-is, a .changes)
 
     -- where the way back begins
-    pub end-cost : r .end .value ≡ last-table 0 (r .end .state) (r .end .level)
-    end-cost = least-is ∙ sym (end-is P last-table (r .end .state) (r .end .level) low-now (a .ends .met low ∙ least-is) .1)
+    pub end-cost : endOf (r .end) ≡ last-table 0 (r .end .state) (r .end .level)
+    end-cost = least-is ∙ sym (end-is P last-table (r .end .state) (r .end .level) low-now (a .ends .met end-low ∙ least-is) .1)

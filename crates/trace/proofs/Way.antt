@@ -14,9 +14,11 @@ use lib.Signed.{mag}
 use mir.Facts.{toZ-ofZ}
 use mir.Syntax.{w16}
 use mir.Val.{SFits, toZ, ofZ, hbits}
+use Rattle.integers.specs.Pairs.{unit, lex}
+use Rattle.curve.specs.Lows.{few}
 use Rattle.plan.specs.declared.Plan.{Plan}
 use Rattle.plan.specs.declared.Edge.{Edge}
-use Rattle.model.specs.Model.{width, edgeAt, penaltyOf, lossAt}
+use Rattle.model.specs.Model.{width, edgeAt, lossAt}
 use Rattle.model.specs.Labels.{labelOn, counts, countBefore, used}
 use Rattle.model.specs.Run as M
 use Rattle.model.specs.Run.{joins, five}
@@ -38,7 +40,7 @@ use Rattle.back.specs.declared.Back.{Back}
 use Rattle.back.specs.declared.Back.the-variants.{To, Lost}
 use Rattle.back.specs.Step.{BackReady, Meets, StepFound, StepTo}
 use Rattle.trace.specs.declared.Point.{Point}
-use Rattle.trace.specs.Trace.{PointAt, nodeAt, StepMade, StepReady}
+use Rattle.trace.specs.Trace.{valueOf, PointAt, nodeAt, StepMade, StepReady}
 
 module _ {P : Plan} {zs : List ℤ} (R : Ready P zs) (t : ℕ) (ht : suc (suc t) ≤ length zs) {p : Point} (a : PointAt P zs (suc (suc t)) p) where
   low : tableAt P zs (suc (suc t)) (p .count) (p .state) (p .level) < noCost
@@ -57,9 +59,9 @@ module _ {P : Plan} {zs : List ℤ} (R : Ready P zs) (t : ℕ) (ht : suc (suc t)
   loss-low : loss ≤ p .value
   loss-low =
       let (e, he, m) = some-edge P zs R t (p .count) (p .state) (p .level) ht (a .count) (a .state) (a .level) low in
-      omega (arith, a .is, m .2)
+      omega (arith, a .is, m .2, a .changes)
 
-  module _ (want : ℕ) (w : want + loss ≡ p .value) where
+  module _ (want : ℕ) (w : want + unit * loss ≡ valueOf p) where
     to-model : (e : ℕ) → Meets P (suc t) T (p .count) (p .state) (p .level) want e → MeetsHere e
     to-model e (l, v, q) = (l, v, omega (arith, a .is))
 
@@ -72,7 +74,7 @@ module _ {P : Plan} {zs : List ℤ} (R : Ready P zs) (t : ℕ) (ht : suc (suc t)
         let (e, he, m) = some-edge P zs R t (p .count) (p .state) (p .level) ht (a .count) (a .state) (a .level) low in
         n e he (of-model e m)
 
-    module _ {e i v : ℕ} (f : StepFound P (suc t) T (p .count) (p .state) (p .level) want e i v) where
+    module _ {e i : ℕ} (v c : ℕ) (f : StepFound P (suc t) T (p .count) (p .state) (p .level) want e i (lex v c)) (hc : c ≤ few) where
       abbrev before : Node
       before = node (fromCount P (suc t) e (p .count)) (edgeAt P e .from) (P .lo +ℤ pos i)
 
@@ -85,18 +87,19 @@ module _ {P : Plan} {zs : List ℤ} (R : Ready P zs) (t : ℕ) (ht : suc (suc t)
       count-low = step-count P zs R t (p .count) (p .state) (p .level) ht (a .count) (a .state) (a .level) low e (f .known) (to-model e (f .meets))
           (λ e′ h m. f .lowest e′ h (of-model e′ m)) i (f .inside) (f .permitted) (f .at) (f .first)
 
-      point-before : (last n : ℕ) → PointAt P zs (suc t) (record { count = fromCount P (suc t) e (p .count); state = edgeAt P e .from; level = i; value = v; last = last; runs = n })
+      point-before : (last n : ℕ) → PointAt P zs (suc t) (record { count = fromCount P (suc t) e (p .count); state = edgeAt P e .from; level = i; value = v; changes = c; last = last; runs = n })
       point-before last n = record {
         count = count-low;
         state = R .plan .edge e (f .known) .from-below;
         level = f .inside;
         is = f .value ∙ sym (f .at);
         some = omega (arith, f .value, f .meets .1);
+        changes = hc;
       }
 
       module _ (lasts : p .last ≤ length zs) {out : List ℤ} where
         -- the run goes on
-        pub joined : joins (edgeAt P e) ≡ true → StepMade P zs (suc t) p (record { count = fromCount P (suc t) e (p .count); state = edgeAt P e .from; level = i; value = v; last = p .last; runs = p .runs }) out out
+        pub joined : joins (edgeAt P e) ≡ true → StepMade P zs (suc t) p (record { count = fromCount P (suc t) e (p .count); state = edgeAt P e .from; level = i; value = v; changes = c; last = p .last; runs = p .runs }) out out
         joined j = record {
           here = point-before (p .last) (p .runs);
           last = lasts;
@@ -110,7 +113,7 @@ module _ {P : Plan} {zs : List ℤ} (R : Ready P zs) (t : ℕ) (ht : suc (suc t)
 
         -- the run starts here
         pub put-out : joins (edgeAt P e) ≡ false → {out′ : List ℤ} {r : Run} → fiveOf r ≡ five (M.run (suc (suc t)) (p .last) (p .state) (P .lo +ℤ pos (p .level)) e) → Put (p .runs) r out out′
-            → StepMade P zs (suc t) p (record { count = fromCount P (suc t) e (p .count); state = edgeAt P e .from; level = i; value = v; last = suc t; runs = p .runs + 1 }) out out′
+            → StepMade P zs (suc t) p (record { count = fromCount P (suc t) e (p .count); state = edgeAt P e .from; level = i; value = v; changes = c; last = suc t; runs = p .runs + 1 }) out out′
         put-out j {out′} {r} e5 m = record {
           here = point-before (suc t) (p .runs + 1);
           last = omega arith;
@@ -129,23 +132,23 @@ module _ {P : Plan} {zs : List ℤ} (R : Ready P zs) where
   loss-at zero h k a = absurd (omega arith)
   loss-at (suc t) h k a = loss-low R t k a
 
-  pub lost-at : (t : ℕ) → 1 ≤ t → t < length zs → {p : Point} → PointAt P zs (suc t) p → (want : ℕ) → want + lossAt zs t (P .lo +ℤ pos (p .level)) ≡ p .value
+  pub lost-at : (t : ℕ) → 1 ≤ t → t < length zs → {p : Point} → PointAt P zs (suc t) p → (want : ℕ) → want + unit * lossAt zs t (P .lo +ℤ pos (p .level)) ≡ valueOf p
       → ((e : ℕ) → e < P .edgecount → Meets P t (tableAt P zs t) (p .count) (p .state) (p .level) want e → ⊥) → ⊥
   lost-at zero h k a want w n = absurd (omega arith)
   lost-at (suc t) h k a want w n = never-lost R t k a want w n
 
-  pub joined-at : (t : ℕ) → 1 ≤ t → t < length zs → {p : Point} → PointAt P zs (suc t) p → (want : ℕ) → want + lossAt zs t (P .lo +ℤ pos (p .level)) ≡ p .value → p .last ≤ length zs
-      → {e i v c s : ℕ} → StepFound P t (tableAt P zs t) (p .count) (p .state) (p .level) want e i v → c ≡ fromCount P t e (p .count) → s ≡ edgeAt P e .from → joins (edgeAt P e) ≡ true
-      → {out : List ℤ} → StepMade P zs t p (record { count = c; state = s; level = i; value = v; last = p .last; runs = p .runs }) out out
-  joined-at zero h k a want w l f ec es j = absurd (omega arith)
-  joined-at (suc t) h k a want w l f ec es j = rw (ec, es) (joined R t k a want w f l j)
+  pub joined-at : (t : ℕ) → 1 ≤ t → t < length zs → {p : Point} → PointAt P zs (suc t) p → (want : ℕ) → want + unit * lossAt zs t (P .lo +ℤ pos (p .level)) ≡ valueOf p → p .last ≤ length zs
+      → {e i v c k s : ℕ} → StepFound P t (tableAt P zs t) (p .count) (p .state) (p .level) want e i (lex v c) → c ≤ few → k ≡ fromCount P t e (p .count) → s ≡ edgeAt P e .from → joins (edgeAt P e) ≡ true
+      → {out : List ℤ} → StepMade P zs t p (record { count = k; state = s; level = i; value = v; changes = c; last = p .last; runs = p .runs }) out out
+  joined-at zero h n a want w l f hc ec es j = absurd (omega arith)
+  joined-at (suc t) h n a want w l f hc ec es j = rw (ec, es) (joined R t n a want w _ _ f hc l j)
 
-  pub put-at : (t : ℕ) → 1 ≤ t → t < length zs → {p : Point} → PointAt P zs (suc t) p → (want : ℕ) → want + lossAt zs t (P .lo +ℤ pos (p .level)) ≡ p .value → p .last ≤ length zs
-      → {e i v c s : ℕ} → StepFound P t (tableAt P zs t) (p .count) (p .state) (p .level) want e i v → c ≡ fromCount P t e (p .count) → s ≡ edgeAt P e .from → joins (edgeAt P e) ≡ false
+  pub put-at : (t : ℕ) → 1 ≤ t → t < length zs → {p : Point} → PointAt P zs (suc t) p → (want : ℕ) → want + unit * lossAt zs t (P .lo +ℤ pos (p .level)) ≡ valueOf p → p .last ≤ length zs
+      → {e i v c k s : ℕ} → StepFound P t (tableAt P zs t) (p .count) (p .state) (p .level) want e i (lex v c) → c ≤ few → k ≡ fromCount P t e (p .count) → s ≡ edgeAt P e .from → joins (edgeAt P e) ≡ false
       → {out out′ : List ℤ} {r : Run} → fiveOf r ≡ five (M.run (suc t) (p .last) (p .state) (P .lo +ℤ pos (p .level)) e) → Put (p .runs) r out out′
-      → StepMade P zs t p (record { count = c; state = s; level = i; value = v; last = t; runs = p .runs + 1 }) out out′
-  put-at zero h k a want w l f ec es j e5 m = absurd (omega arith)
-  put-at (suc t) h k a want w l f ec es j e5 m = rw (ec, es) (put-out R t k a want w f l j e5 m)
+      → StepMade P zs t p (record { count = k; state = s; level = i; value = v; changes = c; last = t; runs = p .runs + 1 }) out out′
+  put-at zero h n a want w l f hc ec es j e5 m = absurd (omega arith)
+  put-at (suc t) h n a want w l f hc ec es j e5 m = rw (ec, es) (put-out R t n a want w _ _ f hc l j e5 m)
 
 -- ---- what the calls give
 
@@ -155,18 +158,18 @@ five-is t last s lo j e r h q =
     q ∙ ap (λ (n : ℕ). pos n ∷ pos last ∷ pos s ∷ (toZ w16 (ofZ w16 lo) +ℤ pos j) ∷ pos e ∷ []) (add-one t) ∙ ap (λ (z : ℤ). pos (suc t) ∷ pos last ∷ pos s ∷ (z +ℤ pos j) ∷ pos e ∷ []) (toZ-ofZ f)
 
 module _ {P : Plan} {zs : List ℤ} {t cur : ℕ} {g : Shape} {p : Point} {ws : List ℕ} {out : List ℤ} (a : StepReady P zs t cur g p ws out) where
-  few : t ≤ 4096
-  few = omega (arith, a .more, a .task .ready .few-readings)
+  in-reach : t ≤ 4096
+  in-reach = omega (arith, a .more, a .task .ready .few-readings)
 
   pub readable : {o : Option Label} → o ≡ labelOn P t → Readable (used o) cur g ws
-  readable e = subst (λ (x : Option Label). Readable (used x) cur g ws) (sym e) (layer-readable (a .task) (a .layer) (a .place) few)
+  readable e = subst (λ (x : Option Label). Readable (used x) cur g ws) (sym e) (layer-readable (a .task) (a .layer) (a .place) in-reach)
 
   pub back-ready : {o : Option Label} → o ≡ labelOn P t → BackReady P o t (p .count) (p .state) (p .level) g
   back-ready e = record {
     checked = a .task .ready .plan;
     shape = a .task .shape;
     on = e;
-    boundary = few;
+    boundary = in-reach;
     count = a .here .count;
     index = a .here .level;
   }
@@ -178,7 +181,7 @@ module _ {P : Plan} {zs : List ℤ} {t cur : ℕ} {g : Shape} {p : Point} {ws : 
   pub loss-fits : (x : ℕ) → x ≡ lossAt zs t (P .lo +ℤ pos (p .level)) → x ≤ p .value
   loss-fits x e = omega (arith, e, loss-at (a .task .ready) t (a .positive) (a .more) (a .here))
 
-  pub want-is : (x : ℕ) → x ≡ lossAt zs t (P .lo +ℤ pos (p .level)) → p .value - x + lossAt zs t (P .lo +ℤ pos (p .level)) ≡ p .value
+  pub want-is : (x : ℕ) → x ≡ lossAt zs t (P .lo +ℤ pos (p .level)) → lex (p .value - x) (p .changes) + unit * lossAt zs t (P .lo +ℤ pos (p .level)) ≡ valueOf p
   want-is x e = omega (arith, e, loss-fits x e)
 
   pub reads-here : {o : Option Label} → o ≡ labelOn P t → Reads (used o) cur g ws (tableAt P zs t)
@@ -188,7 +191,7 @@ module _ (P : Plan) (t : ℕ) (H : Table) (k s j want : ℕ) (b : Back) (f : Ste
   pub lost-of : b ≡ Lost → (e : ℕ) → e < P .edgecount → Meets P t H k s j want e → ⊥
   lost-of q = subst (StepTo P t H k s j want) q f
 
-  pub found-of : {e i v : ℕ} → b ≡ To e i v → StepFound P t H k s j want e i v
+  pub found-of : {e i v c : ℕ} → b ≡ To e i v c → StepFound P t H k s j want e i (lex v c) × (c ≤ few)
   found-of q = subst (StepTo P t H k s j want) q f
 
 -- the edge as code copied it

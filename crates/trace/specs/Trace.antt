@@ -4,6 +4,8 @@ use mathlib.Core.List.{List, _++_}
 use Prim.Native.Nat.{ℕ, suc, _+_, _*_, _≤_, _<_}
 use lib.IntN.{ℤ, pos, _+ℤ_}
 use lib.ListN.{length}
+use Rattle.integers.specs.Pairs.{lex}
+use Rattle.curve.specs.Lows.{few}
 use Rattle.plan.specs.declared.Plan.{Plan}
 use Rattle.model.specs.Model.{width}
 use Rattle.model.specs.Labels.{counts}
@@ -18,13 +20,18 @@ use Rattle.layer.specs.Next.{Task}
 use Rattle.runs.specs.Runs.{Holds}
 use Rattle.trace.specs.declared.Point.{Point}
 
+-- its cost with its changes, as one number
+abbrev pub valueOf : Point → ℕ
+valueOf p = lex (p .value) (p .changes)
+
 -- the point has a cost after t readings
 pub record PointAt (P : Plan) (zs : List ℤ) (t : ℕ) (p : Point) : Type 0 where
   pub count : p .count < counts
   pub state : p .state < P .states
   pub level : p .level < width P
-  pub is : p .value ≡ tableAt P zs t (p .count) (p .state) (p .level)
-  pub some : p .value < noCost
+  pub is : valueOf p ≡ tableAt P zs t (p .count) (p .state) (p .level)
+  pub some : valueOf p < noCost
+  pub changes : p .changes ≤ few
 
 abbrev pub nodeAt : Plan → Point → Node
 nodeAt P p = node (p .count) (p .state) (P .lo +ℤ pos (p .level))

@@ -18,13 +18,14 @@ ghost use Rattle.coded.specs.Coded.{Coded};
 ghost use Rattle.runs.specs.Runs.{fiveOf};
 ghost use Rattle.trace.specs.Trace.{StepReady, StepMade};
 
-// Where the way back stands: count, state, index of the level, and the cost there; the last reading of the run that is open, and how many
+// Where the way back stands: count, state, index of the level, and the cost there with its changes; the last reading of the run that is open, and how many
 // runs are written.
 pub struct Point {
     pub count: usize,
     pub state: usize,
     pub level: u64,
     pub value: u64,
+    pub changes: u64,
     pub last: usize,
     pub runs: usize,
 }
@@ -103,9 +104,16 @@ pub fn step(
         from.state,
         from.level,
         want,
+        from.changes,
         g,
     );
-    let Back::To { edge, level, value } = found else {
+    let Back::To {
+        edge,
+        level,
+        value,
+        changes,
+    } = found
+    else {
         return from;
     };
     let e = coded::edge_in(code, edge);
@@ -118,6 +126,7 @@ pub fn step(
             state,
             level,
             value,
+            changes,
             last: from.last,
             runs: from.runs,
         };
@@ -129,6 +138,7 @@ pub fn step(
         state,
         level,
         value,
+        changes,
         last: t,
         runs: from.runs + 1,
     }

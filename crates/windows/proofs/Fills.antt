@@ -9,7 +9,7 @@ use lib.ListN.{length, set, take, drop, length-set, take-append-drop}
 use lib.Seq.{length-take-le, take-suc-set, drop-set-lt, drop-drop}
 use Rattle.plan.specs.declared.Plan.{Plan}
 use Rattle.model.specs.Refusals.{searchNumber}
-use Rattle.model.specs.Index.{noCost}
+use Rattle.quadratic.specs.Quad.{none}
 use Rattle.model.specs.Tables.{ready-search}
 use Rattle.model.specs.Result.{found, refused, whole, resultOf, Costs, costList, noCosts}
 use Rattle.model.specs.Window.{partAt, starts, costsTo, windowsOf}
@@ -53,10 +53,10 @@ module _ {P : Plan} {zs : List ℤ} {w : ℕ} {g : Shape} {ws out : List ℕ} (f
     part-reached : Reaches P (partAt zs w a) T ws′ ws″ r
     part-reached = subst (λ (x : List ℤ). Reaches P x T ws′ ws″ r) cut-is m
 
-    pub cut-none : noCost ≤ r .end .value → resultOf P (partAt zs w a) whole ≡ refused 16
+    pub cut-none : none ≤ r .end .value → resultOf P (partAt zs w a) whole ≡ refused 16
     cut-none q = cheapest-none part-accepts (part-space i) part-reached q
 
-    pub cut-some : r .end .value < noCost → (ns : List ℤ) × (resultOf P (partAt zs w a) whole ≡ found (r .end .value) ns)
+    pub cut-some : r .end .value < none → (ns : List ℤ) × (resultOf P (partAt zs w a) whole ≡ found (r .end .value) ns)
     cut-some q = (_, cheapest-some part-accepts (part-space i) part-reached q)
 
 -- ---- the list of costs

@@ -2,6 +2,22 @@
 use crate::model::*;
 use crate::piece::NONE;
 
+/// The table holds so many times the cost, plus the number of changes: of equal costs the one with fewer changes is the less. A record has fewer
+/// changes than that, and its cost times that is below `NONE`.
+const UNIT: i64 = ROOT * ROOT;
+/// A distance times this has the loss times the unit as its square.
+const ROOT: i64 = 64;
+
+/// The cost that a value of the table stands for.
+fn cost_of(value: i64) -> Option<i64> {
+    (value < NONE).then_some(value / UNIT)
+}
+
+/// What an edge adds to it.
+fn added(e: &Edge) -> i64 {
+    UNIT * e.penalty() + e.kind.changes()
+}
+
 /// The least value, the index of a level that has it, and the least at the other levels.
 #[derive(Clone, Copy, Default)]
 struct Two {
@@ -100,15 +116,15 @@ impl<'a> Dense<'a> {
     /// The row so far, lowered where the edge from list j offers less.
     fn lower_by(&self, out: &mut [i64], cur: &[i64], e: &Edge, j: usize) {
         let range = j * self.levels..(j + 1) * self.levels;
-        let penalty = e.penalty();
+        let by = added(e);
         match e.kind {
-            Kind::Stay => lower(out, &cur[range], penalty),
-            Kind::Any => lower_others(out, self.low[j], penalty),
-            Kind::Up(g) => lower_up(out, &self.prefix[range], g as usize, penalty),
-            Kind::Down(g) => lower_down(out, &self.suffix[range], g as usize, penalty),
+            Kind::Stay => lower(out, &cur[range], by),
+            Kind::Any => lower_others(out, self.low[j], by),
+            Kind::Up(g) => lower_up(out, &self.prefix[range], g as usize, by),
+            Kind::Down(g) => lower_down(out, &self.suffix[range], g as usize, by),
             Kind::Abs(g) => {
-                lower_up(out, &self.prefix[range.clone()], g as usize, penalty);
-                lower_down(out, &self.suffix[range], g as usize, penalty);
+                lower_up(out, &self.prefix[range.clone()], g as usize, by);
+                lower_down(out, &self.suffix[range], g as usize, by);
             }
         }
     }
@@ -130,9 +146,9 @@ fn suffix(f: &[i64], out: &mut [i64]) {
     }
 }
 
-fn lower(out: &mut [i64], f: &[i64], penalty: i64) {
+fn lower(out: &mut [i64], f: &[i64], by: i64) {
     for (o, v) in out.iter_mut().zip(f) {
-        *o = (*o).min(*v + penalty);
+        *o = (*o).min(*v + by);
     }
 }
 
@@ -148,11 +164,11 @@ fn two_least(f: &[i64]) -> Two {
 }
 
 /// By the least at the other levels.
-fn lower_others(out: &mut [i64], low: Two, penalty: i64) {
+fn lower_others(out: &mut [i64], low: Two, by: i64) {
     let (below, rest) = out.split_at_mut(low.at);
-    lower_constant(below, low.value + penalty);
-    lower_constant(&mut rest[1..], low.value + penalty);
-    rest[0] = rest[0].min(low.second + penalty);
+    lower_constant(below, low.value + by);
+    lower_constant(&mut rest[1..], low.value + by);
+    rest[0] = rest[0].min(low.second + by);
 }
 
 fn lower_constant(out: &mut [i64], c: i64) {
@@ -161,30 +177,31 @@ fn lower_constant(out: &mut [i64], c: i64) {
     }
 }
 
-fn lower_up(out: &mut [i64], prefix: &[i64], g: usize, penalty: i64) {
+fn lower_up(out: &mut [i64], prefix: &[i64], g: usize, by: i64) {
     if g < out.len() {
         let n = out.len() - g;
-        lower(&mut out[g..], &prefix[..n], penalty);
+        lower(&mut out[g..], &prefix[..n], by);
     }
 }
 
-fn lower_down(out: &mut [i64], suffix: &[i64], g: usize, penalty: i64) {
+fn lower_down(out: &mut [i64], suffix: &[i64], g: usize, by: i64) {
     if g < out.len() {
         let n = out.len() - g;
-        lower(&mut out[..n], &suffix[g..], penalty);
+        lower(&mut out[..n], &suffix[g..], by);
     }
 }
 
 /// Values from NONE up stay none: they are cut back to it.
 fn add_loss(f: &mut [i64], x: i64, lo: i64) {
+    let first = (ROOT * (x - lo)) as i32;
     for (i, o) in f.iter_mut().enumerate() {
-        let d = (x - lo - i as i64) as i32 as i64; // it fits, and so the product vectorises
+        let d = i64::from(first - ROOT as i32 * i as i32); // it fits, and so the product vectorises
         *o = (*o + d * d).min(NONE);
     }
 }
 
 /// The least cost only, with two rows.
-pub fn cost(plan: &Plan, z: &[i16]) -> i64 {
+pub fn cost(plan: &Plan, z: &[i16]) -> Option<i64> {
     let mut d = Dense::new(plan);
     let (mut cur, mut next) = (vec![0; d.row()], vec![0; d.row()]);
     d.first(&mut cur, z[0] as i64);
@@ -192,7 +209,7 @@ pub fn cost(plan: &Plan, z: &[i16]) -> i64 {
         d.step(i, &cur, &mut next, *x as i64);
         std::mem::swap(&mut cur, &mut next);
     }
-    best_end(plan, &cur).value
+    cost_of(best_end(plan, &cur).value)
 }
 
 /// The least cost for each number of changes up to `most`, with a row for each of them at two readings.
@@ -210,8 +227,7 @@ pub fn table(plan: &Plan, z: &[i16], most: usize) -> Vec<Option<i64>> {
         }
         std::mem::swap(&mut cur, &mut next);
     }
-    let least = |row: &[i64]| Some(best_end(plan, row).value).filter(|cost| *cost < NONE);
-    cur[row..].chunks(row).map(least).collect()
+    cur[row..].chunks(row).map(|row| cost_of(best_end(plan, row).value)).collect()
 }
 
 /// The whole search with the whole table.
@@ -225,13 +241,14 @@ pub fn search(plan: &Plan, z: &[i16]) -> Option<Answer> {
         d.step(i, &before[(i - 1) * row..], &mut rest[..row], z[i] as i64);
     }
     let end = best_end(plan, &table[(z.len() - 1) * row..]);
-    (end.value < NONE).then(|| Answer {
-        cost: end.value,
+    let runs = |cost| Answer {
+        cost,
         runs: way_back(plan, z, &table, row, end),
-    })
+    };
+    cost_of(end.value).map(runs)
 }
 
-/// The cheapest end of a row: lowest state, then lowest level.
+/// The cheapest end of a row: fewest changes, then lowest state, then lowest level.
 fn best_end(plan: &Plan, row: &[i64]) -> Place {
     let levels = plan.levels();
     let mut best = Place {
@@ -281,7 +298,7 @@ fn lowest_beside(f: &[i64], x: i64, g: i64) -> (i64, i64) {
     }
 }
 
-/// A place in the table: count, state, index of the level, and the cost there.
+/// A place in the table: count, state, index of the level, and the value there.
 #[derive(Clone, Copy)]
 struct Place {
     k: usize,
@@ -290,19 +307,19 @@ struct Place {
     value: i64,
 }
 
-/// The first edge into `at` that meets the wanted cost, and the place in the row before, at its lowest level.
+/// The first edge into `at` that meets the wanted value, and the place in the row before, at its lowest level.
 fn step_back(plan: &Plan, mode: Mode, before: &[i64], at: Place, want: i64) -> (usize, Place) {
     let levels = plan.levels();
     for (number, e) in plan.edges.iter().enumerate().filter(|(_, e)| e.to == at.s) {
         if let Some(k) = count_before(mode, at.k, e.kind) {
             let f = &before[(k * plan.states + e.from) * levels..][..levels];
             let (value, x) = lowest_before(f, e.kind, at.x);
-            if value < NONE && value + e.penalty() == want {
+            if value < NONE && value + added(e) == want {
                 return (number, Place { k, s: e.from, x, value });
             }
         }
     }
-    unreachable!("some edge meets the cost")
+    unreachable!("some edge meets the value")
 }
 
 fn way_back(plan: &Plan, z: &[i16], table: &[i64], row: usize, end: Place) -> Vec<Run> {
@@ -312,7 +329,7 @@ fn way_back(plan: &Plan, z: &[i16], table: &[i64], row: usize, end: Place) -> Ve
     for i in (1..z.len()).rev() {
         let distance = z[i] as i64 - plan.lo - at.x;
         let before = &table[(i - 1) * row..i * row];
-        let (edge, place) = step_back(plan, mode_at(plan, i), before, at, at.value - distance * distance);
+        let (edge, place) = step_back(plan, mode_at(plan, i), before, at, at.value - UNIT * (distance * distance));
         let e = plan.edges[edge];
         if e.kind != Kind::Stay || e.from != e.to {
             runs.push(Run { first: i + 1, edge, ..run });

@@ -124,6 +124,33 @@ pub fn with_labels(mut plan: Plan, n: usize, cs: &[usize]) -> Plan {
     plan
 }
 
+/// A small plan with edges of all kinds between its states, mostly of one class, and a record on its few levels: many segmentations cost the same.
+#[cfg(test)]
+pub fn random(rng: &mut Rng) -> (Plan, Vec<i16>) {
+    let (states, levels, n) = (1 + rng.below(3) as usize, 1 + rng.below(7), 1 + rng.below(24));
+    let (class, gap) = (rng.below(3) as usize, rng.below(3));
+    let mut edges = vec![];
+    for (from, to) in (0..states).flat_map(|from| (0..states).map(move |to| (from, to))) {
+        let kinds = [Kind::Stay, Kind::Any, Kind::Up(gap), Kind::Down(gap), Kind::Abs(gap)];
+        for kind in kinds.into_iter().filter(|kind| *kind == Kind::Stay && from == to || rng.below(3) == 0) {
+            let class = if kind == Kind::Stay { 0 } else { class };
+            edges.push(edge(from, to, kind, class));
+        }
+    }
+    for i in (1..edges.len()).rev() {
+        edges.swap(i, rng.below(i as i64 + 1) as usize);
+    }
+    let mut plan = plan(levels, states, edges);
+    if rng.below(3) == 0 && n > 2 {
+        let p = 1 + rng.below(n - 1) as usize;
+        let q = p + 1 + rng.below(n - p as i64) as usize;
+        let c = rng.below(10) as usize;
+        plan.labels = vec![Label { p, q, c }];
+    }
+    let z = (0..n).map(|_| (plan.lo - 1 + rng.below(levels + 2)) as i16).collect();
+    (plan, z)
+}
+
 /// Motor current: steps, humps and noise, within the grid.
 pub fn trace(n: usize, levels: i64) -> Vec<i16> {
     let mut rng = Rng(12345 + levels as u64);

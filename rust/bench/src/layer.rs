@@ -59,22 +59,34 @@ struct Temps {
     two: usize,
 }
 
+/// Before the first reading.
+const START: Cost = Cost { value: 0, changes: 0 };
+
+/// What an edge adds to a cost.
+#[inline(always)]
+pub fn added(e: &Edge) -> Cost {
+    Cost {
+        value: e.penalty(),
+        changes: e.kind.changes(),
+    }
+}
+
 /// The layer after the first reading x, at base.
 pub fn first_layer(ws: &mut [u64], fr: Frame, plan: &Plan, base: usize, x: i64) {
     let acc = fr.temp(0);
     for s in 0..fr.states {
-        let c = if plan.start >> s & 1 == 1 { 0 } else { NONE };
+        let c = if plan.start >> s & 1 == 1 { START } else { Cost::NONE };
         write_constant(ws, acc, c, fr.hi);
         add_loss(ws, acc, fr.list(base, 0, s), x, fr.hi);
         for k in 1..counts_at(plan, 1) {
-            write_constant(ws, fr.list(base, k, s), NONE, fr.hi);
+            write_constant(ws, fr.list(base, k, s), Cost::NONE, fr.hi);
         }
     }
 }
 
-/// The least so far and g with the penalty. `g` lies in `two` or in a layer.
-fn take(ws: &mut [u64], fr: Frame, t: Temps, g: usize, penalty: i64) -> Temps {
-    least_of_two(ws, t.acc, g, penalty, t.one, fr.lo, fr.hi);
+/// The least so far and g with what the edge adds. `g` lies in `two` or in a layer.
+fn take(ws: &mut [u64], fr: Frame, t: Temps, g: usize, by: Cost) -> Temps {
+    least_of_two(ws, t.acc, g, by, t.one, fr.lo, fr.hi);
     Temps {
         acc: t.one,
         one: t.acc,
@@ -83,38 +95,39 @@ fn take(ws: &mut [u64], fr: Frame, t: Temps, g: usize, penalty: i64) -> Temps {
 }
 
 /// The least so far with an edge from the list at f taken in.
-fn take_edge(ws: &mut [u64], fr: Frame, t: Temps, kind: Kind, f: usize, penalty: i64) -> Temps {
-    match kind {
-        Kind::Stay => take(ws, fr, t, f, penalty),
-        Kind::Any => take_any(ws, fr, t, f, penalty),
-        Kind::Up(g) => take_up(ws, fr, t, f, g, penalty),
-        Kind::Down(g) => take_down(ws, fr, t, f, g, penalty),
+fn take_edge(ws: &mut [u64], fr: Frame, t: Temps, e: &Edge, f: usize) -> Temps {
+    let by = added(e);
+    match e.kind {
+        Kind::Stay => take(ws, fr, t, f, by),
+        Kind::Any => take_any(ws, fr, t, f, by),
+        Kind::Up(g) => take_up(ws, fr, t, f, g, by),
+        Kind::Down(g) => take_down(ws, fr, t, f, g, by),
         Kind::Abs(g) => {
-            let t = take_up(ws, fr, t, f, g, penalty);
-            take_down(ws, fr, t, f, g, penalty)
+            let t = take_up(ws, fr, t, f, g, by);
+            take_down(ws, fr, t, f, g, by)
         }
     }
 }
 
-/// The least at the other levels: the least of all, and at a level that has it the second least, unless the least so far is no dearer there.
-fn take_any(ws: &mut [u64], fr: Frame, t: Temps, f: usize, penalty: i64) -> Temps {
+/// The least at the other levels: the least of all, and at a level that has it the second least, unless the least so far does not come after it there.
+fn take_any(ws: &mut [u64], fr: Frame, t: Temps, f: usize, by: Cost) -> Temps {
     let two = two_least(ws, f, fr.lo, fr.hi);
-    if value_at(ws, t.acc, two.level) <= two.value + penalty {
-        write_constant(ws, t.two, two.value, fr.hi);
-    } else {
+    if two.least.plus(by).before(cost_at(ws, t.acc, two.level)) {
         write_constant_but(ws, t.two, two, fr.lo, fr.hi);
+    } else {
+        write_constant(ws, t.two, two.least, fr.hi);
     }
-    take(ws, fr, t, t.two, penalty)
+    take(ws, fr, t, t.two, by)
 }
 
-fn take_up(ws: &mut [u64], fr: Frame, t: Temps, f: usize, gap: i64, penalty: i64) -> Temps {
+fn take_up(ws: &mut [u64], fr: Frame, t: Temps, f: usize, gap: i64, by: Cost) -> Temps {
     running_min(ws, f, t.one, fr.lo, fr.hi);
     shift(ws, t.one, gap, t.two, fr.lo, fr.hi);
-    take(ws, fr, t, t.two, penalty)
+    take(ws, fr, t, t.two, by)
 }
 
 /// Down is up in the mirror.
-fn take_down(ws: &mut [u64], fr: Frame, t: Temps, f: usize, gap: i64, penalty: i64) -> Temps {
+fn take_down(ws: &mut [u64], fr: Frame, t: Temps, f: usize, gap: i64, by: Cost) -> Temps {
     mirror(ws, f, t.two, fr.lo, fr.hi);
     running_min(ws, t.two, t.one, -fr.hi, -fr.lo);
     shift(ws, t.one, gap, t.two, -fr.hi, -fr.lo);
@@ -124,7 +137,7 @@ fn take_down(ws: &mut [u64], fr: Frame, t: Temps, f: usize, gap: i64, penalty: i
         one: t.two,
         two: t.one,
     };
-    take(ws, fr, t, t.two, penalty)
+    take(ws, fr, t, t.two, by)
 }
 
 /// The layers that stays and changes lead from; none where nothing has so many changes.
@@ -159,11 +172,11 @@ fn next_list(ws: &mut [u64], fr: Frame, plan: &Plan, mode: Mode, from: Sources, 
         one: fr.temp(1),
         two: fr.temp(2),
     };
-    write_constant(ws, t.acc, NONE, fr.hi);
+    write_constant(ws, t.acc, Cost::NONE, fr.hi);
     for e in &plan.edges {
         if e.to == s {
             if let (Some(before), Some(cur)) = (count_before(mode, k, e.kind), from.of(e.kind)) {
-                t = take_edge(ws, fr, t, e.kind, fr.list(cur, before, e.from), e.penalty());
+                t = take_edge(ws, fr, t, e, fr.list(cur, before, e.from));
             }
         }
     }

@@ -25,12 +25,12 @@ pub fn length(ws: &[u64], f: usize, hi: i64) -> usize {
     i + P - f
 }
 
-/// out: at each level the less of f and of g with the penalty.
-pub fn least_of_two(ws: &mut [u64], f: usize, g: usize, penalty: i64, out: usize, lo: i64, hi: i64) {
+/// out: at each level what comes first of f and of g with what an edge adds.
+pub fn least_of_two(ws: &mut [u64], f: usize, g: usize, by: Cost, out: usize, lo: i64, hi: i64) {
     let (mut i, mut j, mut at, mut a) = (f, g, out, lo);
     while a <= hi {
         let p = piece(ws, i);
-        let q = piece(ws, j).raise(penalty);
+        let q = piece(ws, j).raise(by);
         let b = p.end.min(q.end);
         at = least_on(ws, out, at, p, q, a, b);
         if p.end == b {
@@ -43,16 +43,18 @@ pub fn least_of_two(ws: &mut [u64], f: usize, g: usize, penalty: i64, out: usize
     }
 }
 
-/// Appends the less of p and q on a..=b.
+/// Appends what comes first of p and q on a..=b, p where they are equal in cost and changes.
 #[inline(always)]
 fn least_on(ws: &mut [u64], out: usize, at: usize, p: Piece, q: Piece, a: i64, b: i64) -> usize {
     if p.is_none() {
         return append(ws, out, at, q.until(b));
     }
+    // p comes first where p + late <= q, so q where q + 1 - late <= p
+    let late = i64::from(q.k() < p.k());
     let (mut a, mut at) = (a, at);
     while a <= b {
-        let d = p.minus(q);
-        let (d, winner) = if d.at(a) <= 0 { (d, p) } else { (q.minus(p), q) };
+        let d = p.minus(q, late);
+        let (d, winner) = if d.at(a) <= 0 { (d, p) } else { (q.minus(p, 1 - late), q) };
         let s = if a == b { b } else { stop(d, a, b) };
         at = append(ws, out, at, winner.until(s));
         a = s + 1;
@@ -62,7 +64,7 @@ fn least_on(ws: &mut [u64], out: usize, at: usize, p: Piece, q: Piece, a: i64, b
 
 /// out: at each level the least of f there and below.
 pub fn running_min(ws: &mut [u64], f: usize, out: usize, lo: i64, hi: i64) {
-    let (mut at, mut best) = (out, NONE);
+    let (mut at, mut best) = (out, Cost::NONE);
     let (mut i, mut a) = (f, lo);
     while a <= hi {
         let p = piece(ws, i);
@@ -74,14 +76,16 @@ pub fn running_min(ws: &mut [u64], f: usize, out: usize, lo: i64, hi: i64) {
 
 /// Appends the running minimum on a..=p.end, where p is in force and `best` the least so far.
 #[inline(always)]
-fn running_min_on(ws: &mut [u64], out: usize, at: usize, best: i64, p: Piece, a: i64) -> (usize, i64) {
+fn running_min_on(ws: &mut [u64], out: usize, at: usize, best: Cost, p: Piece, a: i64) -> (usize, Cost) {
     let v = p.lowest(a, p.end);
-    let w = p.at(v);
-    if w >= best {
+    let w = p.cost_at(v);
+    // p comes first where it is below
+    let limit = best.value + i64::from(p.k() < best.changes);
+    if w.value >= limit {
         return (append(ws, out, at, constant(p.end, best)), best);
     }
-    // p falls from a to v; from `c` on it is below the least so far
-    let c = first_below(p, best, a, v);
+    // p falls from a to v; from `c` on it is below
+    let c = first_below(p, limit, a, v);
     let mut at = at;
     if c > a {
         at = append(ws, out, at, constant(c - 1, best));
@@ -117,7 +121,7 @@ pub fn shift(ws: &mut [u64], f: usize, gap: i64, out: usize, lo: i64, hi: i64) {
     let (mut i, mut at) = (f, out);
     let mut end = lo + gap - 1;
     if gap > 0 {
-        at = append(ws, out, at, constant(end.min(hi), NONE));
+        at = append(ws, out, at, constant(end.min(hi), Cost::NONE));
     }
     while end < hi {
         let p = piece(ws, i);
@@ -134,30 +138,11 @@ pub fn mirror(ws: &mut [u64], f: usize, out: usize, lo: i64, hi: i64) {
     while i > f {
         let p = piece(ws, i);
         let start = end_at(ws, i - P) + 1;
-        put_piece(
-            ws,
-            at,
-            Piece {
-                end: -start,
-                a: p.a,
-                z: -p.z,
-                c: p.c,
-            },
-        );
+        put_piece(ws, at, p.mirror(-start));
         i -= P;
         at += P;
     }
-    let p = piece(ws, f);
-    put_piece(
-        ws,
-        at,
-        Piece {
-            end: -lo,
-            a: p.a,
-            z: -p.z,
-            c: p.c,
-        },
-    );
+    put_piece(ws, at, piece(ws, f).mirror(-lo));
 }
 
 /// out: f plus the loss of the reading x.
@@ -174,7 +159,7 @@ pub fn add_loss(ws: &mut [u64], f: usize, out: usize, x: i64, hi: i64) {
     }
 }
 
-pub fn write_constant(ws: &mut [u64], out: usize, c: i64, hi: i64) {
+pub fn write_constant(ws: &mut [u64], out: usize, c: Cost, hi: i64) {
     put_piece(ws, out, constant(hi, c));
 }
 
@@ -182,37 +167,37 @@ pub fn write_constant(ws: &mut [u64], out: usize, c: i64, hi: i64) {
 pub fn write_constant_but(ws: &mut [u64], out: usize, two: Two, lo: i64, hi: i64) {
     let mut at = out;
     if lo < two.level {
-        at = append(ws, out, at, constant(two.level - 1, two.value));
+        at = append(ws, out, at, constant(two.level - 1, two.least));
     }
     at = append(ws, out, at, constant(two.level, two.second));
     if two.level < hi {
-        append(ws, out, at, constant(hi, two.value));
+        append(ws, out, at, constant(hi, two.least));
     }
 }
 
 /// What f costs at the level m.
-pub fn value_at(ws: &[u64], f: usize, m: i64) -> i64 {
+pub fn cost_at(ws: &[u64], f: usize, m: i64) -> Cost {
     let mut i = f;
     while end_at(ws, i) < m {
         i += P;
     }
-    piece(ws, i).at(m)
+    piece(ws, i).cost_at(m)
 }
 
-/// The least value, a level that has it, and the least at the other levels.
+/// The least cost, a level that has it, and the least at the other levels.
 #[derive(Clone, Copy, Debug)]
 pub struct Two {
-    pub value: i64,
+    pub least: Cost,
     pub level: i64,
-    pub second: i64,
+    pub second: Cost,
 }
 
-/// The two least of f, in one pass; NONE where there is no other level.
+/// The two least of f, in one pass; none where there is no other level.
 pub fn two_least(ws: &[u64], f: usize, lo: i64, hi: i64) -> Two {
     let mut best = Two {
-        value: NONE,
+        least: Cost::NONE,
         level: lo,
-        second: NONE,
+        second: Cost::NONE,
     };
     let (mut i, mut a) = (f, lo);
     while a <= hi {
@@ -228,41 +213,45 @@ pub fn two_least(ws: &[u64], f: usize, lo: i64, hi: i64) -> Two {
 #[inline(always)]
 fn lower_two(best: Two, p: Piece, a: i64) -> Two {
     let v = p.lowest(a, p.end);
-    let w = p.at(v);
-    if best.value <= w {
+    let w = p.cost_at(v);
+    if !w.before(best.least) {
         return Two {
-            second: best.second.min(w),
+            second: best.second.first(w),
             ..best
         };
     }
-    let mut second = best.value;
+    let mut second = best.least;
     if a < v {
-        second = second.min(p.at(v - 1));
+        second = second.first(p.cost_at(v - 1));
     }
     if v < p.end {
-        second = second.min(p.at(v + 1));
+        second = second.first(p.cost_at(v + 1));
     }
-    Two { value: w, level: v, second }
+    Two { least: w, level: v, second }
 }
 
-/// A value and the lowest level that has it.
+/// A cost and the lowest level that has it.
 #[derive(Clone, Copy, Debug)]
 pub struct Low {
-    pub value: i64,
+    pub least: Cost,
     pub level: i64,
 }
 
-/// The least of f over from..=to, with its lowest level; NONE where there is no such level.
+/// The least of f over from..=to, with its lowest level; none where there is no such level.
 pub fn least_in(ws: &[u64], f: usize, from: i64, to: i64, lo: i64) -> Low {
-    let mut best = Low { value: NONE, level: lo };
+    let mut best = Low {
+        least: Cost::NONE,
+        level: lo,
+    };
     let (mut i, mut a) = (f, lo);
     while a <= to {
         let p = piece(ws, i);
         let (x, y) = (a.max(from), p.end.min(to));
         if x <= y {
             let v = p.lowest(x, y);
-            if p.at(v) < best.value {
-                best = Low { value: p.at(v), level: v };
+            let w = p.cost_at(v);
+            if w.before(best.least) {
+                best = Low { least: w, level: v };
             }
         }
         a = p.end + 1;

@@ -94,7 +94,7 @@ fn check(case: &Case, b: &mut Buffers) -> (Answer, usize) {
     assert_eq!(found.cost, answer.cost as u64, "{name}");
     assert_eq!(b.runs[..5 * found.runs], numbers.collect::<Vec<i32>>(), "{name}");
     assert_eq!(dense::search(plan, z).as_ref(), Some(&answer), "{name}");
-    assert_eq!(dense::cost(plan, z), answer.cost, "{name}");
+    assert_eq!(dense::cost(plan, z), Some(answer.cost), "{name}");
     let end = answer.runs[answer.runs.len() - 1];
     assert_eq!(
         yeldaski::point(&b.file, z, end.state as u8, end.level as i16, &mut b.workspace),

@@ -10,6 +10,14 @@ pub enum Kind {
     Abs(i64),
 }
 
+impl Kind {
+    /// How many changes it is: a stay is none.
+    #[inline(always)]
+    pub fn changes(self) -> i64 {
+        i64::from(self != Kind::Stay)
+    }
+}
+
 #[derive(Clone, Copy, Debug)]
 pub struct Edge {
     pub from: usize,

@@ -74,10 +74,7 @@ fn check(moving: &Moving, file: &[u8], workspace: &mut [u64], costs: &mut [u64])
         assert_eq!(*cost, wanted as u64, "{name}, start {start}");
     }
     for start in [0, moving.parts() - 1] {
-        assert_eq!(
-            costs[start],
-            dense::cost(plan, &readings[start..start + w]) as u64,
-            "{name}, start {start}"
-        );
+        let dense = dense::cost(plan, &readings[start..start + w]);
+        assert_eq!(Some(costs[start] as i64), dense, "{name}, start {start}");
     }
 }

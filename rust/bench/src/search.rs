@@ -77,26 +77,26 @@ struct Point {
     k: usize,
     s: usize,
     level: i64,
-    value: i64,
+    least: Cost,
 }
 
-/// The cheapest end in the layer at cur: lowest state, then lowest level.
+/// The cheapest end in the layer at cur: fewest changes, then lowest state, then lowest level.
 fn best_end(ws: &[u64], fr: Frame, plan: &Plan, cur: usize) -> Point {
     let mut best = Point {
         k: 0,
         s: 0,
         level: fr.lo,
-        value: NONE,
+        least: Cost::NONE,
     };
     for s in 0..fr.states {
         if plan.end >> s & 1 == 1 {
             let low = least_in(ws, fr.list(cur, 0, s), fr.lo, fr.hi, fr.lo);
-            if low.value < best.value {
+            if low.least.before(best.least) {
                 best = Point {
                     k: 0,
                     s,
                     level: low.level,
-                    value: low.value,
+                    least: low.least,
                 };
             }
         }
@@ -120,28 +120,28 @@ fn least_before(ws: &[u64], fr: Frame, kind: Kind, f: usize, m: i64) -> Low {
 fn least_beside(ws: &[u64], fr: Frame, f: usize, m: i64, g: i64) -> Low {
     let below = least_in(ws, f, fr.lo, m - g, fr.lo);
     let above = least_in(ws, f, m + g, fr.hi, fr.lo);
-    if above.value < below.value {
+    if above.least.before(below.least) {
         above
     } else {
         below
     }
 }
 
-/// The step back over a boundary into the layer at cur: the first edge that meets the wanted cost, at its lowest level.
-fn step_back(ws: &[u64], fr: Frame, plan: &Plan, boundary: usize, cur: usize, pt: Point, want: i64) -> (usize, Point) {
+/// The step back over a boundary into the layer at cur: the first edge that meets the wanted cost and changes, at its lowest level.
+fn step_back(ws: &[u64], fr: Frame, plan: &Plan, boundary: usize, cur: usize, pt: Point, want: Cost) -> (usize, Point) {
     let mode = mode_at(plan, boundary);
     for (n, e) in plan.edges.iter().enumerate() {
         if e.to == pt.s {
             if let Some(k) = count_before(mode, pt.k, e.kind) {
                 let low = least_before(ws, fr, e.kind, fr.list(cur, k, e.from), pt.level);
-                if low.value < NONE && low.value + e.penalty() == want {
+                if low.least.value < NONE && low.least.plus(added(e)) == want {
                     return (
                         n,
                         Point {
                             k,
                             s: e.from,
                             level: low.level,
-                            value: low.value,
+                            least: low.least,
                         },
                     );
                 }
@@ -162,7 +162,7 @@ pub fn point(ws: &mut [u64], plan: &Plan, z: &[i16], s: usize, m: i64) -> Option
     let fr = Frame::of(plan);
     let mut saved = Saved::new();
     let wk = forward(ws, fr, plan, z, &mut saved, 0);
-    let costs = (0..counts_at(plan, z.len())).map(|k| value_at(ws, fr.list(wk.cur, k, s), m));
+    let costs = (0..counts_at(plan, z.len())).map(|k| cost_at(ws, fr.list(wk.cur, k, s), m).value);
     let least = costs.min().filter(|cost| *cost < NONE);
     ws.fill(0);
     least
@@ -174,7 +174,7 @@ pub fn windows(ws: &mut [u64], plan: &Plan, z: &[i16], w: usize) -> Vec<i64> {
     let mut saved = Saved::new();
     let costs = z.windows(w).map(|part| {
         let wk = forward(ws, fr, plan, part, &mut saved, 0);
-        best_end(ws, fr, plan, wk.cur).value
+        best_end(ws, fr, plan, wk.cur).least.value
     });
     let costs = costs.collect();
     ws.fill(0);
@@ -202,7 +202,7 @@ pub fn table(ws: &mut [u64], plan: &Plan, z: &[i16], most: usize) -> Vec<Option<
     }
     let cost = |k: usize| {
         (k < z.len())
-            .then(|| best_end(ws, fr, plan, cur + k * size).value)
+            .then(|| best_end(ws, fr, plan, cur + k * size).least.value)
             .filter(|cost| *cost < NONE)
     };
     let costs = (0..=most).map(cost).collect();
@@ -216,8 +216,8 @@ pub fn search(ws: &mut [u64], plan: &Plan, z: &[i16]) -> (Option<Answer>, usize)
     let mut saved = Saved::new();
     let mut wk = forward(ws, fr, plan, z, &mut saved, SLOTS);
     let end = best_end(ws, fr, plan, wk.cur);
-    let answer = (end.value < NONE).then(|| Answer {
-        cost: end.value,
+    let answer = (end.least.value < NONE).then(|| Answer {
+        cost: end.least.value,
         runs: way_back(ws, fr, plan, z, &mut wk, end),
     });
     ws.fill(0);
@@ -232,7 +232,10 @@ fn way_back(ws: &mut [u64], fr: Frame, plan: &Plan, z: &[i16], wk: &mut Walk, en
     for i in (1..z.len()).rev() {
         rewind(ws, fr, plan, z, wk, i);
         let x = z[i] as i64;
-        let want = pt.value - (x - pt.level) * (x - pt.level);
+        let want = Cost {
+            value: pt.least.value - (x - pt.level) * (x - pt.level),
+            ..pt.least
+        };
         let (edge, before) = step_back(ws, fr, plan, i, wk.cur, pt, want);
         let e = plan.edges[edge];
         if e.kind != Kind::Stay || e.from != e.to {
@@ -265,4 +268,45 @@ pub fn stats(ws: &mut [u64], plan: &Plan, z: &[i16]) -> Stats {
         }
     }
     stats
+}
+
+#[cfg(test)]
+mod tests {
+    use super::*;
+    use crate::dense;
+    use crate::graphs::{any, random, Rng};
+
+    fn answer(plan: &Plan, z: &[i16]) -> Option<Answer> {
+        let mut workspace = vec![9; Frame::of(plan).words()];
+        search(&mut workspace, plan, z).0
+    }
+
+    /// The toy data of the papers: one, two and three changes cost 3, and the answer has one.
+    #[test]
+    fn fewer_changes_win_a_tie() {
+        let plan = Plan { lo: 0, hi: 4, ..any(5, 1) };
+        let run = |first, last, level, edge| Run {
+            first,
+            last,
+            state: 0,
+            level,
+            edge,
+        };
+        let runs = vec![run(1, 3, 1, 255), run(4, 4, 4, 1)];
+        assert_eq!(answer(&plan, &[2, 1, 0, 4]), Some(Answer { cost: 3, runs }));
+    }
+
+    /// Small grids and mostly one class, so that ties are the rule: the answers are those of the dense programme.
+    #[test]
+    fn ties() {
+        let mut rng = Rng(20_771);
+        let mut found = 0;
+        for number in 0..4_000 {
+            let (plan, z) = random(&mut rng);
+            let wanted = dense::search(&plan, &z);
+            assert_eq!(answer(&plan, &z), wanted, "number {number}: {plan:?}, {z:?}");
+            found += usize::from(wanted.is_some());
+        }
+        assert!(found > 2_000, "{found}");
+    }
 }

@@ -154,6 +154,12 @@ fn asked(edge: &Edge) -> String {
     }
 }
 
+/// How many changes the runs have. Each one starts a run; a stay to another state starts one too and is none.
+pub fn changes(plan: &Plan, runs: &[Run]) -> usize {
+    let edge = |run: &Run| plan.edges.get(usize::from(run.edge?));
+    runs.iter().filter_map(edge).filter(|edge| edge.is_change()).count()
+}
+
 /// What the runs cost: the squared distances of the readings from the levels, and the penalty of the edge at every boundary.
 pub fn cost(plan: &Plan, readings: &[i16], runs: &[Run]) -> u64 {
     let cost_of = |run: &Run| {
@@ -374,6 +380,15 @@ mod tests {
         };
         let words = "the answer has 8 readings, but the plan has 7";
         assert_eq!(judged(&known, &[(3, 0, 31, 255), (8, 1, 42, 2)]).as_deref(), Some(words));
+    }
+
+    /// Up, down, a stay to the other state, up; and a run by an edge that the plan does not have.
+    #[test]
+    fn numbers_of_changes() {
+        assert_eq!(changes(&plan(), &runs(&[(3, 0, 31, 255)])), 0);
+        let four = [(1, 0, 9, 255), (2, 1, 15, 2), (3, 0, 9, 3), (4, 1, 15, 2), (5, 0, 15, 4), (6, 1, 21, 2)];
+        assert_eq!(changes(&plan(), &runs(&four)), 4);
+        assert_eq!(changes(&plan(), &runs(&[(1, 0, 9, 255), (2, 0, 9, 9)])), 0);
     }
 
     /// Worked out by hand: squares 0 + 1 + 0 and 0 + 1 + 0 + 1 + 0, stays of 1 twice and of 2 four times, the rise 50.

@@ -8,8 +8,9 @@ use crate::failure::{usage, Failure};
 use crate::given::{Given, Words};
 use crate::make;
 use crate::outline::in_line;
-use crate::plan::{Edge, MAX_CHANGES};
+use crate::plan::MAX_CHANGES;
 use crate::records;
+use crate::rules;
 use shared::options::Args;
 use yeldaski::Refusal;
 
@@ -67,9 +68,7 @@ impl Task<'_> {
         if entries.least().is_some_and(|(_, least)| least == cost) {
             return None;
         }
-        let is_change = |edge: &u8| self.given.plan.edges.get(usize::from(*edge)).is_some_and(Edge::is_change);
-        let changes = runs.iter().filter_map(|run| run.edge).filter(is_change).count();
-        let changes = counted(changes, "change");
+        let changes = counted(rules::changes(&self.given.plan, runs), "change");
         Some(format!("the answer of a search has {changes}, more than the table, and costs {cost}"))
     }
 

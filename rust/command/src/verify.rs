@@ -1,6 +1,7 @@
 //! `verify`: whether an answer file is the answer of a plan file.
-use crate::answer::{self, Answer};
+use crate::answer::{self, Answer, Run};
 use crate::cause;
+use crate::check::counted;
 use crate::difference;
 use crate::export::{summary, Item};
 use crate::failure::{refused, usage, Failure};
@@ -75,9 +76,17 @@ fn fault(plan: &Plan, outline: &Outline, given: &Answer, found: &Answer) -> Opti
     match (rules::broken(plan, outline, runs), found) {
         (Some(rule), _) => Some(rule),
         (None, _) if true_cost != *cost => Some(format!("its runs cost {true_cost}, not {cost}")),
-        (None, Answer::Runs { cost: least, .. }) if least == cost => {
-            Some("its runs cost the same, but others come first in the order among equal costs".to_string())
-        }
+        (None, Answer::Runs { cost: least, runs: first }) if least == cost => Some(later(plan, runs, first)),
         _ => None,
     }
+}
+
+/// Why the runs that the search finds come before others that cost the same.
+fn later(plan: &Plan, runs: &[Run], first: &[Run]) -> String {
+    let [more, fewest] = [runs, first].map(|runs| rules::changes(plan, runs));
+    if more == fewest {
+        return "its runs cost the same with as many changes, but others come first in the order among these".to_string();
+    }
+    let [more, fewest] = [more, fewest].map(|changes| counted(changes, "change"));
+    format!("its runs cost the same with {more}, but among equal costs fewer come first, and the search finds {fewest}")
 }

@@ -63,7 +63,8 @@ fn b(gap: u16) -> String {
 #[test]
 fn examples_of_the_paper() {
     let toy = "2 1 0 4";
-    assert_eq!(a("0 to 4", 1, "", toy), "1,1,0,2,,3\n2,3,0,0,1,3\n4,4,0,4,1,3\n");
+    // Ticket 6: two and three changes cost 3 as well.
+    assert_eq!(a("0 to 4", 1, "", toy), "1,3,0,1,,3\n4,4,0,4,1,3\n");
     assert_eq!(a("0 to 4", 4, "", toy), "1,4,0,2,,9\n");
     assert_eq!(a("0 to 4", 1, "label 1 to 4 changes 0", toy), "1,4,0,2,,9\n");
     assert_eq!(a("0 to 4", 1, "label 2 to 3 changes 1", toy), "1,2,0,1,,3\n3,3,0,0,1,3\n4,4,0,4,1,3\n");

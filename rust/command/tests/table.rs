@@ -145,6 +145,32 @@ fn without_a_k() {
     assert_eq!(costs(&folder, &["a.txt", "--changes", "32"])[4..], [None; 29]);
 }
 
+/// The line that is marked has the cost and the number of changes of the answer, also where several lines cost the same.
+#[test]
+fn the_least_is_the_answer() {
+    let folder = start("answer");
+    let mut tied = 0;
+    for number in 0..24 {
+        let (kind, penalty) = (["any", "up 0", "abs 1"][number / 3 % 3], number % 3);
+        let text = format!("grid 0 to 4\nstate s start end\nedge s -> s {kind} penalty {penalty}\nedge s -> s stay\n");
+        put(&folder, "ties.txt", &text);
+        let readings: Vec<i16> = rough(40, 4)[number..number + 12].to_vec();
+        put(&folder, "ties.csv", &lines(&readings));
+        let found = costs(&folder, &["ties.txt", "ties.csv"]);
+        let least = found.iter().flatten().min().expect("a cost");
+        let first = found.iter().position(|cost| cost.as_ref() == Some(least)).expect("a line");
+        tied += u32::from(found.iter().flatten().filter(|cost| *cost == least).count() > 1);
+        let answer = run_in(&folder, &["find", "ties.txt", "ties.csv"], b"").text();
+        // After the cost, an empty line and the names of the columns: one run more than changes.
+        let head = format!("cost {least}\n");
+        assert!(
+            answer.starts_with(&head) && answer.lines().count() == 3 + first + 1,
+            "{found:?} {readings:?} {answer}"
+        );
+    }
+    assert!(tied > 5, "{tied}");
+}
+
 /// What the table does not show is said: that more changes cost less.
 #[test]
 fn cheaper_with_more_changes() {
@@ -153,7 +179,7 @@ fn cheaper_with_more_changes() {
     for (args, note) in [
         (
             ["a.txt", "--changes", "0"],
-            "a.txt: the answer of a search has 2 changes, more than the table, and costs 3\n",
+            "a.txt: the answer of a search has 1 change, more than the table, and costs 3\n",
         ),
         (["a.txt", "--changes", "1"], ""),
         (

@@ -198,15 +198,42 @@ fn answer_of_another_record() {
     }
 }
 
-/// Among equal costs the order decides: with readings 3 and 4, level 3 comes before level 4.
+/// Among equal costs and as many changes the order decides: with readings 3 and 4, level 3 comes before level 4.
 #[test]
 fn equal_costs() {
     let folder = belt("equal_costs", "81 0008 0000000000000001  82 0008 0001 0002 00 0004 FF");
     fs::write(folder.join("belt.plan"), hex(common::PAPER_PLAN)).expect("file");
     let done = verify(&folder);
     let lines = "belt.answer: not the answer of belt.plan: run 1: the level is 4, the search finds 3\n\
-                 belt.answer: its runs cost the same, but others come first in the order among equal costs\n";
+                 belt.answer: its runs cost the same with as many changes, but others come first in the order among these\n";
     assert_eq!((done.status, done.err.as_str()), (1, lines));
+}
+
+/// Among equal costs fewer changes come first: the toy data have one, two and three at cost 3.
+#[test]
+fn equal_costs_with_more_changes() {
+    let [first, second, third, last] = [
+        "0001 0001 00 0002 FF",
+        "0002 0002 00 0001 01",
+        "0003 0003 00 0000 01",
+        "0004 0004 00 0004 01",
+    ];
+    for (runs, changes) in [
+        (&[first, "0002 0003 00 0000 01", last][..], "2 changes"),
+        (&[first, second, third, last], "3 changes"),
+    ] {
+        let answer: String = runs.iter().map(|run| format!("  82 0008 {run}")).collect();
+        let folder = belt("more_changes", &format!("81 0008 0000000000000003{answer}"));
+        fs::write(folder.join("toy.txt"), common::cost_lists::A).expect("file");
+        assert_eq!(run_in(&folder, &["make", "toy.txt", "-o", "belt.plan"], b"").status, 0);
+        let done = verify(&folder);
+        let lines = format!(
+            "belt.answer: not the answer of belt.plan: it has {} runs, the search finds 2 runs\n\
+             belt.answer: its runs cost the same with {changes}, but among equal costs fewer come first, and the search finds 1 change\n",
+            runs.len()
+        );
+        assert_eq!((done.status, done.err), (1, lines));
+    }
 }
 
 #[test]

@@ -13,6 +13,8 @@ pub enum Profile {
     Labelled,
     /// Mostly edges of kind any, where the least cost before a change is often at the level itself.
     Any,
+    /// Mostly one class for all changes, often 0, on few levels: many segmentations cost the same, with unlike numbers of changes.
+    Ties,
     Program,
     Damaged,
     Mutated,
@@ -25,12 +27,35 @@ pub enum Profile {
 }
 
 impl Profile {
+    const ALL: [Profile; 13] = [
+        Profile::Tiny,
+        Profile::Small,
+        Profile::Labelled,
+        Profile::Any,
+        Profile::Ties,
+        Profile::Program,
+        Profile::Damaged,
+        Profile::Mutated,
+        Profile::Wide,
+        Profile::Large,
+        Profile::Long,
+        Profile::Replies,
+        Profile::MutatedReplies,
+    ];
+
+    /// The profile of this name, or the names that there are.
+    pub fn named(name: &str) -> Result<Profile, String> {
+        let found = Profile::ALL.into_iter().find(|profile| profile.name() == name);
+        found.ok_or_else(|| format!("there is no profile '{name}', only {}", Profile::ALL.map(Profile::name).join(", ")))
+    }
+
     pub fn name(self) -> &'static str {
         match self {
             Profile::Tiny => "tiny",
             Profile::Small => "small",
             Profile::Labelled => "labelled",
             Profile::Any => "any",
+            Profile::Ties => "ties",
             Profile::Program => "program",
             Profile::Damaged => "damaged",
             Profile::Mutated => "mutated",
@@ -60,8 +85,9 @@ pub fn profile_of(case: u64) -> Profile {
         6..=7 => Profile::Any,
         8..=12 => Profile::Small,
         13..=15 => Profile::Labelled,
-        16..=24 => Profile::Damaged,
-        25..=30 => Profile::Mutated,
+        16..=22 => Profile::Damaged,
+        23..=26 => Profile::Ties,
+        27..=30 => Profile::Mutated,
         31 => Profile::Any,
         32 => Profile::Program,
         33 | 34 => Profile::Wide,
@@ -79,6 +105,7 @@ pub fn file(rng: &mut Rng, profile: Profile, case: u64) -> Vec<u8> {
         Profile::Small => small(rng).file(RULES),
         Profile::Labelled => labelled_file(rng),
         Profile::Any => moving(rng).file(RULES),
+        Profile::Ties => tied(rng).file(RULES),
         Profile::Program if rng.one_in(5) => special(rng).file(RULES),
         Profile::Program => gen::program_case(rng, RULES).file(RULES),
         Profile::Damaged => gen::damaged_file(rng, RULES, damage),
@@ -232,6 +259,65 @@ fn moving_edges(rng: &mut Rng, states: u8) -> Vec<Edge> {
                         class,
                     },
                 );
+            }
+        }
+    }
+    edges.truncate(32);
+    edges
+}
+
+/// Changes that all cost the same, now and then one that does not, on grids of few levels; a stay costs nothing or as much as a change.
+fn tied(rng: &mut Rng) -> Case {
+    let states = rng.pick(&[1, 2, 2, 3, 3]);
+    let levels = rng.pick(&[2, 3, 3, 4, 5, 6, 9, 13]);
+    let lo = rng.range(-levels, 2);
+    let (hi, all) = (lo + levels - 1, (1 << states) - 1);
+    let mut mask = || if rng.one_in(2) { all as u8 } else { rng.range(1, all) as u8 };
+    let (start, end) = (mask(), mask());
+    let mut whole = plan::open(RULES, 1, lo as i16, hi as i16, states as u8, start, end).expect("a grid");
+    for edge in tied_edges(rng, states as u8) {
+        plan::add_edge(RULES, &mut whole, &edge).expect("an edge");
+    }
+    let n = rng.range(2, 30);
+    if rng.one_in(3) {
+        add_labels(rng, &mut whole, n);
+    }
+    plan::seal(RULES, &mut whole, false).expect("sealing");
+    // small steps or any, at every reading or seldom
+    let (mut level, small, often) = (rng.range(lo, hi), rng.one_in(2), rng.pick(&[1, 1, 2, 4]));
+    let readings: Vec<i16> = (0..n)
+        .map(|_| {
+            if rng.one_in(often) {
+                let far = if small { rng.range(level - 1, level + 1) } else { rng.range(lo, hi) };
+                level = far.clamp(lo - 1, hi + 1);
+            }
+            level as i16
+        })
+        .collect();
+    Case {
+        plan: whole,
+        record: Record::plain(&readings),
+    }
+}
+
+/// Edges of all kinds between all states in any order, so that a change is often the lower edge.
+fn tied_edges(rng: &mut Rng, states: u8) -> Vec<Edge> {
+    let class = rng.pick(&[0, 0, 0, 1, 1, 2]);
+    let stays = if rng.one_in(5) { class } else { 0 };
+    let widest = rng.range(0, 2);
+    let mut edges = vec![];
+    for (from, to) in (0..states).flat_map(|from| (0..states).map(move |to| (from, to))) {
+        for kind in [plan::STAY, plan::ANY, plan::UP, plan::DOWN, plan::ABS] {
+            let share = if kind == plan::STAY && from == to { 7 } else { 3 };
+            if rng.below(8) < share {
+                let gap = if kind <= plan::ANY { 0 } else { rng.range(0, widest) as u16 };
+                let class = match kind {
+                    plan::STAY => stays,
+                    _ if rng.one_in(12) => rng.range(0, 3) as u8,
+                    _ => class,
+                };
+                let at = rng.below(edges.len() as u64 + 1) as usize;
+                edges.insert(at, Edge { from, to, kind, gap, class });
             }
         }
     }

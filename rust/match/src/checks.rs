@@ -215,9 +215,12 @@ fn write_plan(asker: &mut Asker, rng: &mut Rng, file: &[u8], plan: &Plan, readin
     asker.ask(rng, file, Call::WritePlan { readings, room }, oracle)
 }
 
-/// Whether an answer is another than before ticket 4, by which kind any moves the level, as far as that takes little of the oracle's time.
+/// So few steps of the oracle that it can be asked by the rules before a ticket as well.
+const QUICK: u64 = 100_000;
+
+/// Whether an answer is another than before ticket 4, by which kind any moves the level, as far as that takes few steps.
 pub fn moved<T: PartialEq>(plan: &Plan, n: usize, answer: impl Fn(Rules) -> T) -> bool {
-    cases::effort(plan, n) <= 100_000 && answer(Rules { tickets: 3 }) != answer(Rules { tickets: 4 })
+    cases::effort(plan, n) <= QUICK && answer(Rules { tickets: 3 }) != answer(Rules { tickets: 4 })
 }
 
 fn searched(asker: &mut Asker, rng: &mut Rng, file: &[u8], plan: &Plan, readings: Vec<i16>, words: usize, room: usize) -> Checked {
@@ -227,6 +230,11 @@ fn searched(asker: &mut Asker, rng: &mut Rng, file: &[u8], plan: &Plan, readings
     if moved(plan, readings.len(), answer) {
         asker.tally.moves.searches += 1;
         asker.tally.moves.refused += u64::from(found.is_err());
+    }
+    if cases::effort(plan, readings.len()) <= QUICK {
+        if let (Ok(before), Ok(found)) = (answer(Rules { tickets: 5 }), &found) {
+            asker.tally.ties.add(plan, &before, found);
+        }
     }
     if found.is_ok() {
         for label in &plan.labels {

@@ -52,35 +52,52 @@ mod search;
 #[path = "../../oracle/src/selftest.rs"]
 mod selftest;
 
+use cases::Profile;
 use checks::Asker;
 use rng::Rng;
 use shared::options::{program, wrong, Args, Opt};
 use std::process::ExitCode;
 use std::time::{Duration, Instant};
 
-/// The first five change requests are in force, of which four change answers: the moving window, the labels that say up, down or several, kind any,
-/// which has to move the level, and the table of costs for each number of changes.
-pub const RULES: rules::Rules = rules::Rules { tickets: 5 };
+/// The first six change requests are in force, of which five change answers: the moving window, the labels that say up, down or several, kind any,
+/// which has to move the level, the table of costs for each number of changes, and fewer changes first among equal costs.
+pub const RULES: rules::Rules = rules::Rules { tickets: 6 };
 
-/// A run of so many cases has to meet labels of every c, answers in which kind any has to move the level, and tables of every length and sort.
+/// A run of so many cases has to meet labels of every c, answers in which kind any has to move the level, tables of every length and sort, and ties
+/// that fewer changes decide.
 const LONG_RUN: u64 = 2_000;
 
-const OPTIONS: [Opt; 3] = [
+const OPTIONS: [Opt; 4] = [
     Opt::with("cases", "N", "how many cases (default 4000)"),
     Opt::with("seed", "S", "the seed of the random cases (default 1)"),
     Opt::with("only", "CASE", "the one case with this number, counted from 0"),
+    Opt::with(
+        "profile",
+        "NAME",
+        "cases of this profile alone, such as ties (without it all profiles by turns)",
+    ),
 ];
 
 struct Options {
     cases: u64,
     seed: u64,
     only: Option<u64>,
+    profile: Option<Profile>,
+}
+
+impl Options {
+    /// Whether so many cases of all profiles have to meet everything.
+    fn is_long(&self) -> bool {
+        self.cases >= LONG_RUN && self.only.is_none() && self.profile.is_none()
+    }
 }
 
 fn main() -> ExitCode {
     let about = "Asks the proved library and the oracle the same questions and compares their answers byte for byte.";
-    let end = "\nThe exit status is 0 where all answers are equal, 1 at the first difference or where a long run has not met labels of every c, \
-               answers in which kind any has to move the level, and tables of every length and sort, 2 for wrong options.\n";
+    let end =
+        "\nThe exit status is 0 where all answers are equal, 1 at the first difference or where a long run of all profiles has not met labels of \
+               every c, answers in which kind any has to move the level, tables of every length and sort, and ties that fewer changes decide, 2 for \
+               wrong options.\n";
     match program("match", about, &OPTIONS, end) {
         Ok(args) => options(&args).map_or_else(|message| wrong("match", &message), run),
         Err(status) => status,
@@ -93,6 +110,7 @@ fn options(args: &Args) -> Result<Options, String> {
         cases: number("cases", 4_000)?,
         seed: number("seed", 1)?,
         only: args.flag("only").then(|| number("only", 0)).transpose()?,
+        profile: args.option("profile").map(Profile::named).transpose()?,
     })
 }
 
@@ -107,10 +125,10 @@ fn run(options: Options) -> ExitCode {
         // Each case has a generator of its own, so that it can be run alone.
         let mut rng = Rng::new(options.seed.wrapping_mul(0x1_0000_0001).wrapping_add(case));
         rng.next();
-        let profile = cases::profile_of(case);
+        let profile = options.profile.unwrap_or_else(|| cases::profile_of(case));
         asker.tally.case(profile.name());
         if let Err(difference) = checks::run_case(&mut asker, &mut rng, profile, case) {
-            report::show(&difference, options.seed, case, profile);
+            report::show(&difference, options.seed, case, profile, options.profile.is_some());
             return ExitCode::FAILURE;
         }
         if shown.elapsed() > Duration::from_secs(5) {
@@ -120,7 +138,7 @@ fn run(options: Options) -> ExitCode {
     }
     println!("{}", asker.tally);
     let missing = asker.tally.missing();
-    if options.only.is_some() || options.cases < LONG_RUN || missing.is_empty() {
+    if !options.is_long() || missing.is_empty() {
         return ExitCode::SUCCESS;
     }
     println!("never compared: {}", missing.join(", "));

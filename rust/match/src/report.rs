@@ -78,7 +78,8 @@ fn file_of(difference: &Difference) -> Vec<u8> {
     file.unwrap_or_else(|_| difference.file.clone())
 }
 
-pub fn show(difference: &Difference, seed: u64, case: u64, profile: Profile) {
+/// `alone`: the profile was asked for.
+pub fn show(difference: &Difference, seed: u64, case: u64, profile: Profile, alone: bool) {
     let ending = if profile.is_reply() { "answer" } else { "plan" };
     let name = format!("match-{seed}-{case}.{ending}");
     let file = file_of(difference);
@@ -96,5 +97,10 @@ pub fn show(difference: &Difference, seed: u64, case: u64, profile: Profile) {
     if let Some(buffer) = difference.proved.fault {
         println!("the buffer for {buffer} does not hold what it should");
     }
-    println!("again   match --seed {seed} --only {case}");
+    let profile = if alone {
+        format!(" --profile '{}'", profile.name())
+    } else {
+        String::new()
+    };
+    println!("again   match --seed {seed} --only {case}{profile}");
 }

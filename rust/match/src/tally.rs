@@ -1,5 +1,6 @@
 //! How often each call was asked, and what it gave.
-use crate::plan::Plan;
+use crate::plan::{Plan, STAY};
+use crate::search::{Found, Path};
 use crate::tables::MOST;
 use std::collections::BTreeMap;
 use std::fmt;
@@ -93,6 +94,69 @@ impl fmt::Display for Moves {
     }
 }
 
+/// Searches that were compared and that have another answer than before ticket 6: of equal cost, with fewer changes.
+#[derive(Default)]
+pub struct Ties {
+    searches: u64,
+    /// Those that end in another state or at another level.
+    ends: u64,
+    /// Those of plans with labels.
+    labelled: u64,
+    /// Those with two or more changes fewer.
+    several: u64,
+    /// All that were asked by both rules and have an answer.
+    asked: u64,
+}
+
+/// How many changes a segmentation has.
+fn changes(plan: &Plan, path: &Path) -> usize {
+    let change = |edge: &&u8| plan.edges[usize::from(**edge)].kind != STAY;
+    path.edges.iter().filter(change).count()
+}
+
+impl Ties {
+    pub fn add(&mut self, plan: &Plan, before: &Found, now: &Found) {
+        self.asked += 1;
+        if before.runs == now.runs {
+            return;
+        }
+        let [more, fewest] = [before, now].map(|found| changes(plan, &found.path));
+        assert!(before.cost == now.cost && more > fewest, "the oracle's two rules");
+        let end = |path: &Path| (path.states.last().copied(), path.levels.last().copied());
+        self.searches += 1;
+        self.ends += u64::from(end(&before.path) != end(&now.path));
+        self.labelled += u64::from(!plan.labels.is_empty());
+        self.several += u64::from(more > fewest + 1);
+    }
+
+    fn named(&self) -> [(&'static str, u64); 4] {
+        [
+            ("searches", self.searches),
+            ("with another end", self.ends),
+            ("with labels", self.labelled),
+            ("with several changes fewer", self.several),
+        ]
+    }
+
+    /// What never occurred.
+    pub fn missing(&self) -> Vec<String> {
+        let missing = self.named().into_iter().filter(|(_, times)| *times == 0);
+        missing.map(|(name, _)| format!("ties that fewer changes decide: {name}")).collect()
+    }
+}
+
+impl fmt::Display for Ties {
+    fn fmt(&self, f: &mut fmt::Formatter<'_>) -> fmt::Result {
+        let counts: Vec<String> = self.named().iter().map(|(name, times)| format!("{name} {times}")).collect();
+        writeln!(
+            f,
+            "with another answer than before ticket 6 (fewer changes win a tie), of {} searches asked by both rules: {}",
+            self.asked,
+            counts.join(", ")
+        )
+    }
+}
+
 /// Tables that were compared.
 pub struct Tables {
     /// By their K, from 0 to 32.
@@ -177,6 +241,7 @@ const OF_TABLES: [u8; 6] = [9, 13, 14, 15, 16, 20];
 pub struct Tally {
     pub labels: Labels,
     pub moves: Moves,
+    pub ties: Ties,
     pub tables: Tables,
     cases: BTreeMap<&'static str, u64>,
     calls: BTreeMap<&'static str, Count>,
@@ -192,7 +257,14 @@ impl Tally {
         let refused = |number: &u8| self.calls.get("table").is_some_and(|count| count.refused.contains_key(number));
         let unmet = OF_TABLES.iter().filter(|number| !refused(number));
         let refusals = unmet.map(|number| format!("a table refused with {number}")).collect();
-        [self.labels.missing(), self.moves.missing(), self.tables.missing(), refusals].concat()
+        [
+            self.labels.missing(),
+            self.moves.missing(),
+            self.ties.missing(),
+            self.tables.missing(),
+            refusals,
+        ]
+        .concat()
     }
 
     /// One comparison more; 0 stands for an answer.
@@ -216,7 +288,7 @@ impl fmt::Display for Tally {
             writeln!(f)?;
             all += count.answered + count.refused.values().sum::<u64>();
         }
-        write!(f, "{}{}{}", self.labels, self.moves, self.tables)?;
+        write!(f, "{}{}{}{}", self.labels, self.moves, self.ties, self.tables)?;
         let cases: Vec<String> = self.cases.iter().map(|(name, times)| format!("{name} {times}")).collect();
         write!(
             f,
@@ -230,6 +302,8 @@ impl fmt::Display for Tally {
 #[cfg(test)]
 mod tests {
     use super::*;
+    use crate::rules::Rules;
+    use crate::search::{self, Record};
     use crate::{plan, RULES};
 
     #[test]
@@ -252,14 +326,39 @@ mod tests {
             windows: 1,
         };
         assert_eq!(moves.missing(), ["points with another answer than before ticket 4"]);
+        let ties = Ties {
+            searches: 2,
+            ends: 1,
+            labelled: 0,
+            several: 1,
+            asked: 9,
+        };
+        assert_eq!(ties.missing(), ["ties that fewer changes decide: with labels"]);
         let mut all = Tally {
             labels,
             moves,
+            ties,
             tables: every_table(),
             ..Tally::default()
         };
         OF_TABLES.iter().for_each(|number| all.call("table", *number));
-        assert_eq!(all.missing().len(), 4);
+        assert_eq!(all.missing().len(), 5);
+    }
+
+    /// What is counted of the toy data: one change in place of two, at the same end.
+    #[test]
+    fn a_tie_is_counted() {
+        let mut plan = plan::open(RULES, 1, 0, 4, 1, 1, 1).expect("a grid");
+        for (kind, class) in [(plan::STAY, 0), (plan::ANY, 1)] {
+            let (from, to, gap) = (0, 0, 0);
+            plan::add_edge(RULES, &mut plan, &plan::Edge { from, to, kind, gap, class }).expect("an edge");
+        }
+        plan::seal(RULES, &mut plan, false).expect("sealing");
+        let found = |tickets| search::search(Rules { tickets }, &plan, &Record::plain(&[2, 1, 0, 4]), 960, 20).expect("an answer");
+        let mut ties = Ties::default();
+        ties.add(&plan, &found(5), &found(6));
+        ties.add(&plan, &found(6), &found(6));
+        assert_eq!((ties.asked, ties.searches, ties.ends, ties.labelled, ties.several), (2, 1, 0, 0, 0));
     }
 
     fn every_table() -> Tables {

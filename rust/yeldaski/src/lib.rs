@@ -52,6 +52,10 @@ pub fn write_plan(file: &[u8], readings: &[i16], out: &mut [u8]) -> Result<usize
 
 /// Searches the cheapest segmentation of `readings` that the plan of `file` allows. The readings in the file are not looked at.
 ///
+/// Among equal costs the one with the fewest changes comes first: a change is a boundary with an edge of kind 1 to 4, inside labels and outside of
+/// them. Among those with as many it is the one with the lowest state at the last reading, then the lowest level there, then, going back boundary by
+/// boundary, the lowest edge and the lowest level before it.
+///
 /// A run is five numbers: first reading, last reading, state, level, edge that enters it (255 for the first run). Runs fill the front of `runs`;
 /// the rest, and on refusal all of it, stays. Refusals: those of the plan reader, then 9, 13, 14, 15 (`runs` under 5 numbers a reading), 16.
 /// After success or 16 the first [`work_words`] of `workspace` are zero and the others untouched; after other refusals all are untouched.

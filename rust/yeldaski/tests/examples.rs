@@ -18,8 +18,7 @@ fn run(first: i32, last: i32, level: i32, edge: i32) -> [i32; 5] {
 
 #[test]
 fn toy_data() {
-    let three = [run(1, 1, 2, 255), run(2, 3, 0, 1), run(4, 4, 4, 1)].concat();
-    assert_eq!(found(&plan_a(0, 4, 1), &TOY), Ok((3, three)));
+    assert_eq!(found(&plan_a(0, 4, 1), &TOY), Ok((3, [run(1, 3, 1, 255), run(4, 4, 4, 1)].concat())));
     assert_eq!(found(&plan_a(0, 4, 4), &TOY), Ok((9, run(1, 4, 2, 255).to_vec())));
 }
 
@@ -70,8 +69,31 @@ fn lower_edge_first_among_equal_costs() {
     assert_eq!(found(&plan_a(0, 9, 0), &[3, 3]), Ok((0, run(1, 2, 3, 255).to_vec())));
     let swapped = Plan::new(0, 9, 1, 1, 1).edge(0, 0, ANY, 0, 0).edge(0, 0, STAY, 0, 0);
     assert_eq!(found(&swapped, &[3, 3]), Ok((0, run(1, 2, 3, 255).to_vec())));
-    let twice = Plan::new(0, 9, 1, 1, 1).edge(0, 0, UP, 0, 0).edge(0, 0, STAY, 0, 0);
-    assert_eq!(found(&twice, &[3, 3]), Ok((0, [run(1, 1, 3, 255), run(2, 2, 3, 0)].concat())));
+    for kinds in [[UP, ABS], [ABS, UP]] {
+        let changes = Plan::new(0, 9, 1, 1, 1).edge(0, 0, kinds[0], 0, 0).edge(0, 0, kinds[1], 0, 0);
+        assert_eq!(found(&changes, &[3, 3]), Ok((0, [run(1, 1, 3, 255), run(2, 2, 3, 0)].concat())));
+    }
+}
+
+/// Ticket 6: among equal costs fewer changes come before a lower edge, a lower last state and a lower last level. One, two and three changes of the toy
+/// data cost the same, and a label says which.
+#[test]
+fn fewer_changes_win_a_tie() {
+    let lower_edge = Plan::new(0, 9, 1, 1, 1).edge(0, 0, UP, 0, 0).edge(0, 0, STAY, 0, 0);
+    assert_eq!(found(&lower_edge, &[3, 3]), Ok((0, run(1, 2, 3, 255).to_vec())));
+    let lower_state = Plan::new(0, 9, 2, 3, 3).edge(0, 0, UP, 0, 0).edge(1, 1, STAY, 0, 0);
+    assert_eq!(found(&lower_state, &[3, 3]), Ok((0, vec![1, 2, 1, 3, 255])));
+    assert_eq!(found(&plan_a(0, 4, 1), &[1, 1, 0]), Ok((1, run(1, 3, 1, 255).to_vec())));
+    // a stay between two states is no change
+    let stay = plan_b(2, 0).edge(0, 1, STAY, 0, 1);
+    assert_eq!(found(&stay, &[3, 3]), Ok((1, vec![1, 1, 0, 3, 255, 2, 2, 1, 3, 4])));
+    for (c, runs) in [
+        (1, vec![run(1, 3, 1, 255), run(4, 4, 4, 1)]),
+        (2, vec![run(1, 1, 2, 255), run(2, 3, 0, 1), run(4, 4, 4, 1)]),
+        (3, vec![run(1, 1, 2, 255), run(2, 2, 1, 1), run(3, 3, 0, 1), run(4, 4, 4, 1)]),
+    ] {
+        assert_eq!(found(&plan_a(0, 4, 1).label(1, 4, c), &TOY), Ok((3, runs.concat())), "{c}");
+    }
 }
 
 /// Kind any leads to another level, so a change that a label asks for costs 1 where both readings are equal, and one level leaves none.

@@ -1,24 +1,33 @@
-use Rattle.back.proofs.Steps.{meets-low, meets-none}
-use Prim.Native.Nat.{ℕ, _+_, _-_, _≤_, _<_}
+use mathlib.Core.Path.{_≡_}
 use native.Mathlib.Omega.{arith}
-use mathlib.Core.Path.{_≡_, _∙_, sym, refl, ap}
+use Rattle.back.proofs.Steps.{meets-none, meets-cost, meets-other}
 use borrow.Author.Needs.{needs}
 use Rattle.back.proofs.meets.Statement.{statement}
 use Rattle.back.proofs.meets.Tie as tie
 use Rattle.back.proofs.meets.Reads as reads
 use Rattle.back.proofs.meets.Lts as lts
 
--- src/lib.rt:119:9
+returns : tie.Need-returns
+returns c = meets-none (c .before .before .args .low) _ _ _ _ (c .before .before .pre .0 .1) (c .before .before .pre .1 .0) (c .before .before .pre .1 .1) (omega (arith, c .if1 .taken))
+
+add-if2 : tie.Need-add-if2
+add-if2 c = search needs
+
 add-result : tie.Need-add-result
 add-result c = search needs
 
--- src/lib.rt:114:1
-returns : tie.Need-returns
-returns c = meets-low _ _ _ (c .if1 .taken)
-
--- src/lib.rt:114:1
 returns-2 : tie.Need-returns-2
-returns-2 c = meets-none _ _ _ (c .if1 .left)
+returns-2 c = meets-cost (c .before .before .before .before .before .args .low) _ _ _ _ (c .before .before .before .before .before .pre .0 .1) (c .before .before .before .before .before .pre .1 .0) (c .before .before .before .before .before .pre .1 .1) (omega (arith, c .before .before .before .if1 .left)) (c .before .if2 .taken)
+
+returns-3 : tie.Need-returns-3
+returns-3 c = meets-other (c .before .before .before .before .args .low) _ _ _ _ (c .before .before .before .before .pre .0 .1) (c .before .before .before .before .pre .1 .0) (c .before .before .before .before .pre .1 .1) (omega (arith, c .before .before .if1 .left)) (c .if2 .left)
 
 pub meets-spec : {M : Type 1} → statement M
-meets-spec = tie.close (tie.spec add-result returns returns-2)
+meets-spec =
+    tie.close
+    (tie.spec
+    returns
+    add-if2
+    add-result
+    returns-2
+    returns-3)

@@ -20,7 +20,7 @@ leads-requires : tie.Need-leads-requires
 leads-requires c κs = (c .before .pre .1 .boundary, omega (arith, c .before .pre .1 .count))
 
 returns : tie.Need-returns
-returns c = offers-none _ _ _ _ _ _ _ _ _ _ (sym (c .before .leads .ensures) ∙ not-true _ (c .if1 .taken)) (omega arith)
+returns c = offers-none _ _ _ _ _ _ _ _ _ _ (sym (c .before .leads .ensures) ∙ not-true _ (c .if1 .taken)) (omega arith) (omega arith)
 
 count-before-requires : tie.Need-count-before-requires
 count-before-requires c κs = (c .before .before .before .pre .1 .boundary, omega (arith, c .before .before .before .pre .1 .count))

@@ -1,5 +1,6 @@
 use Rattle.back.proofs.Ends.{held, fine, pointTo, point-none, point-more, point-all}
-use Prim.Native.Nat.{ℕ, _+_, _-_, _≤_, _<_}
+use Prim.Native.Nat.{ℕ, _+_, _-_, _/_, _≤_, _<_}
+use Rattle.integers.specs.Pairs.{unit}
 use native.Mathlib.Omega.{arith}
 use mathlib.Core.Path.{_≡_, _∙_, sym, refl, ap}
 use borrow.Author.Needs.{needs}
@@ -12,7 +13,7 @@ use Rattle.curve.proofs.value_at.Reads as value-at-reads
 use Rattle.layer.proofs.list_at.Reads as list-at-reads
 
 abbrev Inv-loop : tie.InvT-loop
-Inv-loop ws cur g n s j best₀ k₀ best k = (k ≤ n) × (best ≡ pointTo cur g ws s j k)
+Inv-loop ws cur g n s j best₀ k₀ best k = (k ≤ n) × (best ≡ pointTo cur g ws s j k / unit)
 
 abbrev μ-loop : tie.MeasureT-loop
 μ-loop ws cur g n s j best₀ k₀ best k = n - k
@@ -36,7 +37,7 @@ loop-less : tie.Need-loop-less Inv-loop μ-loop
 loop-less c = omega (arith, c .before .before .before .loop-test .taken)
 
 loop-again : tie.Need-loop-again Inv-loop μ-loop
-loop-again c = (omega (arith, c .before .before .before .loop-test .taken), point-more _ _ _ _ _ _ _ _ _ _ (c .before .before .before .before .loop .inv .1) (c .before .before .list-at .ensures) (c .before .value-at .ensures) (c .lesser .ensures))
+loop-again c = (omega (arith, c .before .before .before .loop-test .taken), point-more _ _ _ _ _ _ _ _ _ _ (c .before .before .before .before .loop .inv .1) (c .before .before .list-at .ensures) (c .before .value-at .ensures .0) (c .before .value-at .ensures .1) (c .lesser .ensures))
 
 returns : tie.Need-returns Inv-loop μ-loop
 returns c = λ H r. point-all _ _ _ _ r (c .before .before .before .pre .1 .0) (c .before .before .before .pre .1 .1) (omega (arith, c .loop-test .left, c .before .loop .inv .0)) (c .before .loop .inv .1)

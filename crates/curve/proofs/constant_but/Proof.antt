@@ -1,4 +1,3 @@
--- `curve::constant_but`: three constants. Assumes nothing.
 use Rattle.curve.proofs.Second.{constant-but}
 use native.Mathlib.Omega.{arith}
 use borrow.Author.Needs.{needs}
@@ -6,7 +5,7 @@ use Rattle.curve.proofs.constant_but.Statement.{statement}
 use Rattle.curve.proofs.constant_but.Tie as tie
 
 constant-to-requires : tie.Need-constant-to-requires
-constant-to-requires c κs = search needs
+constant-to-requires c κs = omega (arith, c .before .before .pre)
 
 add-constant-to : tie.Need-add-constant-to
 add-constant-to c = search needs
@@ -24,7 +23,7 @@ same-length : tie.Need-same-length
 same-length c = search needs
 
 returns : tie.Need-returns
-returns c = constant-but (c .before .before .before .before .before .before .before .before .before .before .before .before .before .pre .1) (c .before .before .before .before .before .before .before .before .before .before .constant-to .ensures) (c .before .before .before .before .before .before .constant-to2 .ensures) (c .before .before .constant-to3 .ensures)
+returns c = constant-but _ (c .before .before .before .before .before .before .before .before .before .before .before .before .before .pre .0 .1) (c .before .before .before .before .before .before .before .before .before .before .constant-to .ensures) (c .before .before .before .before .before .before .constant-to2 .ensures) (c .before .before .constant-to3 .ensures)
 
 pub constant-but-spec : {M : Type 1} → statement M
 constant-but-spec =

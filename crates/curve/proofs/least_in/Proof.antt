@@ -3,8 +3,7 @@ use mathlib.Core.Logic.{inl}
 use mathlib.Core.Path.{refl, sym, _∙_, ap}
 use Prim.Native.Nat.{ℕ, _+_, _-_, _≤_}
 use native.Mathlib.Omega.{arith}
-use Rattle.quadratic.specs.Quad.{value}
-use Rattle.quadratic.specs.declared.Quad.{Quad}
+use Rattle.quadratic.specs.Quad.{Quad, quad, value}
 use Rattle.curve.specs.Lows.{costs}
 use Rattle.curve.specs.Pieces.{piece}
 use Rattle.curve.proofs.Laws.{At, Here, here, at-start, at-step}
@@ -50,7 +49,7 @@ lesser-requires c κs = tt
 
 lower-requires : tie.Need-lower-requires Inv-loop μ-loop
 lower-requires c κs = let t = c .before .before .before .before in let s = c .before .before .before .before .before .before .before in let l = c .lesser .ensures .0 in let g = c .before .greater .ensures .0 in
-    let w = fine-on (piece (s .args .ws .now) (s .args .f) (s .args .levels)) _ _ _ _ (c .before .before .load .result) (s .pre .0 .1) (s .pre .1 .1) (hf t .from) (hf t .to) (λ j p q. hf t .is j p q ∙ sym (c .before .before .load .ensures)) in
+    let w = fine-on (piece (s .args .ws .now) (s .args .f) (s .args .levels)) _ _ _ _ (quad (c .before .before .load .result)) (s .pre .0 .1) (s .pre .1 .1) (hf t .from) (hf t .to) (λ j p q. hf t .is j p q ∙ sym (c .before .before .load .ensures)) in
     ((w .0, λ v p q. w .1 v (omega (arith, g)) (omega (arith, l))), omega (arith, l, s .pre .1 .0, s .pre .0 .1))
 
 add-i : tie.Need-add-i Inv-loop μ-loop
@@ -67,7 +66,7 @@ loop-again c = let t = c .before .before .before .before .before in let s = c .b
   omega (arith, hf t .to),
   (
     at-step _ _ (c .before .before .before .before .before .before .loop .inv .1 .0) (omega (arith, t .loop-test, s .pre .1 .0)) (hf t .from) (omega arith) (inl (refl, refl)),
-    till-step _ _ _ _ _ _ _ (s .args .base) (c .before .before .before .load .result) _ _ (c .before .before .before .before .before .before .loop .inv .1 .1) (hf t .from) (λ j p q. ap (λ (k : Quad). value k (s .args .base + j)) (hf t .is j p q ∙ sym (c .before .before .before .load .ensures))) (c .before .before .greater .ensures .0) (c .before .before .greater .ensures .1) (c .before .lesser .ensures .0) (c .before .lesser .ensures .1) (c .lower .ensures),
+    till-step _ _ _ _ _ _ _ (s .args .base) (quad (c .before .before .before .load .result)) _ _ (c .before .before .before .before .before .before .loop .inv .1 .1) (hf t .from) (λ j p q. ap (λ (k : Quad). value k (s .args .base + j)) (hf t .is j p q ∙ sym (c .before .before .before .load .ensures))) (c .before .before .greater .ensures .0) (c .before .before .greater .ensures .1) (c .before .lesser .ensures .0) (c .before .lesser .ensures .1) (c .lower .ensures),
   ),
 )
 

@@ -3,8 +3,7 @@ use mathlib.Core.Logic.{_⊎_, ⊎-elim}
 use mathlib.Core.Path.{subst, _≡_, sym, _∙_}
 use Prim.Native.Nat.{ℕ, _+_, _-_, _≤_, _<_}
 use native.Mathlib.Omega.{arith}
-use Rattle.quadratic.specs.Quad.{Sized, better, raised}
-use Rattle.quadratic.specs.declared.Quad.{Quad}
+use Rattle.quadratic.specs.Quad.{Quad, quad, Sized, better, raised}
 use Rattle.curve.specs.Lists.{emits-none, emits-then, emits-as, made}
 use Rattle.curve.specs.Pieces.{endOf, Emits, piece}
 use Rattle.curve.proofs.Laws.{yields-same, Seen, seen, raised-same, better-same, small-raised, At, at-start}
@@ -12,10 +11,10 @@ use Rattle.curve.proofs.least_of_two.Statement.{statement}
 use Rattle.curve.proofs.least_of_two.Tie as tie
 
 abbrev Inv-loop : tie.InvT-loop
-Inv-loop ws₀ f g pen dst levels base i₀ k₀ n₀ x₀ ws i k n x = ((x ≤ levels) × (At ws₀ f levels i x × At ws₀ g levels k x)) × Emits (λ (j : ℕ). better (base + j) (piece ws₀ f levels j) (raised pen (piece ws₀ g levels j))) ws₀ ws dst 0 0 x n
+Inv-loop ws₀ f g pen ch dst levels base i₀ k₀ n₀ x₀ ws i k n x = ((x ≤ levels) × (At ws₀ f levels i x × At ws₀ g levels k x)) × Emits (λ (j : ℕ). better (base + j) (piece ws₀ f levels j) (raised pen ch (piece ws₀ g levels j))) ws₀ ws dst 0 0 x n
 
 abbrev μ-loop : tie.MeasureT-loop
-μ-loop ws₀ f g pen dst levels base i₀ k₀ n₀ x₀ ws i k n x = levels - x
+μ-loop ws₀ f g pen ch dst levels base i₀ k₀ n₀ x₀ ws i k n x = levels - x
 
 loop-holds : tie.Need-loop-holds Inv-loop μ-loop
 loop-holds c = let s = c .before in ((omega arith, (at-start (s .pre .0 .0 .formed), at-start (s .pre .0 .1 .0 .formed))), emits-none _ _ _ _ _)
@@ -41,16 +40,16 @@ ys c =
     (least t _ (c .lesser .ensures .1), (y, omega (arith, t .before .before .before .pre .1 .0)))
 
 -- their sizes
-qp : (c : tie.After-load Inv-loop μ-loop) → Sized (c .load .result)
+qp : (c : tie.After-load Inv-loop μ-loop) → Sized (quad (c .load .result))
 qp c = let t = c .before .before .before .before in rw (c .load .ensures, ← (sf t .is (t .before .loop .x) (omega arith) (sf t .from))) (t .before .before .before .pre .1 .1 .0 (t .before .loop .x) (t .loop-test .taken))
 
-ql : (c : tie.After-load2 Inv-loop μ-loop) → Sized (raised (c .before .before .before .before .before .before .before .before .before .args .pen) (c .load2 .result))
+ql : (c : tie.After-load2 Inv-loop μ-loop) → Sized (raised (c .before .before .before .before .before .before .before .before .before .args .pen) (c .before .before .before .before .before .before .before .before .before .args .ch) (quad (c .load2 .result)))
 ql c =
     let t = c .before .before .before .before .before .before in
-    subst (λ (q : Quad). Sized (raised (c .before .before .before .before .before .before .before .before .before .args .pen) q)) (sg t .is (t .before .loop .x) (omega arith) (sg t .from) ∙ sym (c .load2 .ensures))
+    subst (λ (q : Quad). Sized (raised (c .before .before .before .before .before .before .before .before .before .args .pen) (c .before .before .before .before .before .before .before .before .before .args .ch) q)) (sg t .is (t .before .loop .x) (omega arith) (sg t .from) ∙ sym (c .load2 .ensures))
     (t .before .before .before .pre .1 .1 .1 .0 (t .before .loop .x) (t .loop-test .taken))
 
-qr : (c : tie.After-raise Inv-loop μ-loop) → Sized (c .raise .result)
+qr : (c : tie.After-raise Inv-loop μ-loop) → Sized (quad (c .raise .result))
 qr c = rw (c .raise .ensures) (ql (c .before))
 
 mul-at : tie.Need-mul-at Inv-loop μ-loop
@@ -84,7 +83,7 @@ load-requires-2 : tie.Need-load-requires-2 Inv-loop μ-loop
 load-requires-2 c κs = sg (c .before .before .before .before .before) .room
 
 raise-requires : tie.Need-raise-requires Inv-loop μ-loop
-raise-requires c κs = (small-raised (c .before .before .before .before .before .before .before .before .before .args .pen) _ (ql c), c .before .before .before .before .before .before .before .before .before .pre .1 .0 .0)
+raise-requires c κs = (small-raised (c .before .before .before .before .before .before .before .before .before .args .pen) (c .before .before .before .before .before .before .before .before .before .args .ch) _ (ql c), c .before .before .before .before .before .before .before .before .before .pre .1 .0 .0)
 
 lesser-requires : tie.Need-lesser-requires Inv-loop μ-loop
 lesser-requires c κs = tt
@@ -100,7 +99,7 @@ least-part-requires c κs =
       (
         ((i .1 .count (omega arith), y .0), omega (arith, y .1 .0, i .1 .kept .size, s .pre .0)),
         λ j u v. yields-same _ (sf t .is j u (omega (arith, l .ensures .0)) ∙ sym (c .before .before .before .before .before .load .ensures))
-            (raised-same _ (sg t .is j u (omega (arith, l .ensures .0)) ∙ sym (c .before .before .before .load2 .ensures)) ∙ sym (c .before .before .raise .ensures))
+            (raised-same _ _ (sg t .is j u (omega (arith, l .ensures .0)) ∙ sym (c .before .before .before .load2 .ensures)) ∙ sym (c .before .before .raise .ensures))
             (s .pre .1 .1 .1 .1 j (omega (arith, y .1 .0))),
       ),
     )
@@ -121,7 +120,7 @@ loop-again : tie.Need-loop-again Inv-loop μ-loop
 loop-again c = let s = c .before .before .before .before .before .before .before .before .before .before .before .before .before .before .before .before .before in let t = c .before .before .before .before .before .before .before .before .before .before .before .before .before .before in let y = ys (c .before .before .before .before .before .before) in let l = c .before .before .before .before .before .before .lesser in (
   (omega (arith, y .1 .0), (sf t .step (l .result) (c .before .next .result) (y .0) (l .ensures .0 .0) (c .before .next .ensures), sg t .step (l .result) (c .next2 .result) (y .0) (l .ensures .0 .1) (c .next2 .ensures))),
   emits-then (omega arith) (omega (arith, y .0)) (c .before .before .before .before .before .before .before .before .before .before .before .before .before .before .before .loop .inv .1)
-      (emits-as (λ j p q. sym (better-same _ (sf t .is j p (omega (arith, l .ensures .0)) ∙ sym (c .before .before .before .before .before .before .before .before .before .before .load .ensures)) (raised-same _ (sg t .is j p (omega (arith, l .ensures .0)) ∙ sym (c .before .before .before .before .before .before .before .before .load2 .ensures)) ∙ sym (c .before .before .before .before .before .before .before .raise .ensures)))) (c .before .before .before .before .least-part .ensures)),
+      (emits-as (λ j p q. sym (better-same _ (sf t .is j p (omega (arith, l .ensures .0)) ∙ sym (c .before .before .before .before .before .before .before .before .before .before .load .ensures)) (raised-same _ _ (sg t .is j p (omega (arith, l .ensures .0)) ∙ sym (c .before .before .before .before .before .before .before .before .load2 .ensures)) ∙ sym (c .before .before .before .before .before .before .before .raise .ensures)))) (c .before .before .before .before .least-part .ensures)),
 )
 
 same-length : tie.Need-same-length Inv-loop μ-loop

@@ -2,14 +2,14 @@
 use mathlib.Core.Path.{_≡_}
 use Prim.Native.Nat.{ℕ, _+_, _-_, _≤_}
 use native.Mathlib.Omega.{arith}
-use Rattle.quadratic.specs.Quad.{better}
+use Rattle.quadratic.specs.Quad.{quad, better}
 use Rattle.curve.specs.Lists.{emits-none, emits-append}
 use Rattle.curve.specs.Pieces.{Emits}
 use Rattle.curve.proofs.least_on.Statement.{statement}
 use Rattle.curve.proofs.least_on.Tie as tie
 
 abbrev Inv-loop : tie.InvT-loop
-Inv-loop ws₀ dst n p q x y base a₀ k₀ ws a k = ((x ≤ a) × (a ≤ y + 1)) × Emits (λ (j : ℕ). better (base + j) p q) ws₀ ws dst n x a k
+Inv-loop ws₀ dst n p q x y base a₀ k₀ ws a k = ((x ≤ a) × (a ≤ y + 1)) × Emits (λ (j : ℕ). better (base + j) (quad p) (quad q)) ws₀ ws dst n x a k
 
 abbrev μ-loop : tie.MeasureT-loop
 μ-loop ws₀ dst n p q x y base a₀ k₀ ws a k = y + 1 - a

@@ -4,8 +4,7 @@ use mathlib.Core.Path.{_≡_, refl, sym, _∙_, ap}
 use Prim.Native.Nat.{ℕ, _+_, _*_, _-_, _≤_}
 use native.Mathlib.Omega.{arith}
 use lib.ListN.{length}
-use Rattle.quadratic.specs.Quad.{value}
-use Rattle.quadratic.specs.declared.Quad.{Quad}
+use Rattle.quadratic.specs.Quad.{Quad, quad, value}
 use Rattle.curve.specs.Lows.{costs, TwoLeast}
 use Rattle.curve.specs.Pieces.{piece}
 use Rattle.curve.proofs.Laws.{At, Here, here, at-start, at-step}
@@ -46,7 +45,7 @@ load-requires c κs = room (c .before)
 
 lower-two-requires : tie.Need-lower-two-requires Inv-loop μ-loop
 lower-two-requires c κs = let t = c .before .before in let s = c .before .before .before .before .before in
-    let w = fine-on (piece (s .args .ws .now) (s .args .f) (s .args .levels)) _ _ _ _ (c .load .result) (s .pre .0 .1 .1) (s .pre .1) (hf t .from) (hf t .to) (λ j p q. hf t .is j p q ∙ sym (c .load .ensures)) in
+    let w = fine-on (piece (s .args .ws .now) (s .args .f) (s .args .levels)) _ _ _ _ (quad (c .load .result)) (s .pre .0 .1 .1) (s .pre .1) (hf t .from) (hf t .to) (λ j p q. hf t .is j p q ∙ sym (c .load .ensures)) in
     (w, (hf t .from, (s .pre .0 .1 .0, omega (arith, hf t .to, s .pre .0 .1 .1))))
 
 add-i : tie.Need-add-i Inv-loop μ-loop

@@ -5,8 +5,8 @@ use mathlib.Core.Path.{_≡_, refl, sym, _∙_, ap, subst}
 use Prim.Native.Nat.{ℕ, _+_, _*_, _-_, _≤_, _<_}
 use native.Mathlib.Omega.{arith}
 use lib.ListN.{length}
-use Rattle.quadratic.specs.Quad.{value}
-use Rattle.quadratic.specs.declared.Quad.{Quad}
+use Rattle.integers.specs.Pairs.{lex}
+use Rattle.quadratic.specs.Quad.{Quad, quad, value, Small, up, down}
 use Rattle.curve.specs.Lists.{start-zero, start-next}
 use Rattle.curve.specs.Pieces.{piece, Held, startOf, endOf, quadAt}
 use Rattle.curve.proofs.Laws.{At, Here, here, at-start, at-step}
@@ -77,17 +77,26 @@ load-requires c κs = let s = c .before .before .before .before in room (s .pre 
 add-eval : tie.Need-add-eval Inv-loop μ-loop
 add-eval c = let s = c .before .before .before .before .before in omega (arith, s .pre .0 .1, s .pre .1 .0)
 
+-- the piece is in range
+whole : (c : tie.After-load Inv-loop μ-loop) → Small (quad (c .load .result)) × ((v : ℕ) → c .before .before .before .before .before .args .base + c .before .before .before .before .before .args .j ≤ v → v ≤ c .before .before .before .before .before .args .base + c .before .before .before .before .before .args .j → down (quad (c .load .result)) v ≤ up (quad (c .load .result)) v)
+whole c =
+    let s = c .before .before .before .before .before in
+    let is : (i : ℕ) → s .args .j ≤ i → i ≤ s .args .j → piece (s .args .ws .now) (s .args .f) (s .args .levels) i ≡ quad (c .load .result) = λ i p q. let e : i ≡ s .args .j = omega arith in ap (piece (s .args .ws .now) (s .args .f) (s .args .levels)) e ∙ piece-there (c .before .before .before .loop .inv) (s .pre .1 .0) (c .before .if1 .left) ∙ sym (c .load .ensures) in
+    fine-on (piece (s .args .ws .now) (s .args .f) (s .args .levels)) _ (s .args .base) (s .args .j) (s .args .j) (quad (c .load .result)) (s .pre .0 .1) (s .pre .1 .1) (omega arith) (s .pre .1 .0) is
+
 eval-requires : tie.Need-eval-requires Inv-loop μ-loop
 eval-requires c κs =
     let s = c .before .before .before .before .before in
-    let is : (i : ℕ) → s .args .j ≤ i → i ≤ s .args .j → piece (s .args .ws .now) (s .args .f) (s .args .levels) i ≡ c .load .result = λ i p q. let e : i ≡ s .args .j = omega arith in ap (piece (s .args .ws .now) (s .args .f) (s .args .levels)) e ∙ piece-there (c .before .before .before .loop .inv) (s .pre .1 .0) (c .before .if1 .left) ∙ sym (c .load .ensures) in
-    let w = fine-on (piece (s .args .ws .now) (s .args .f) (s .args .levels)) _ (s .args .base) (s .args .j) (s .args .j) (c .load .result) (s .pre .0 .1) (s .pre .1 .1) (omega arith) (s .pre .1 .0) is in
+    let w = whole c in
     (w .0, (omega (arith, s .pre .0 .1, s .pre .1 .0), w .1 (s .args .base + s .args .j) (omega arith) (omega arith)))
 
 returns : tie.Need-returns Inv-loop μ-loop
 returns c =
-    let s = c .before .before .before .before .before .before in
-    c .eval .ensures ∙ ap (λ (q : Quad). value q (s .args .base + s .args .j)) (c .before .load .ensures ∙ sym (piece-there (c .before .before .before .before .loop .inv) (s .pre .1 .0) (c .before .before .if1 .left)))
+    let s = c .before .before .before .before .before .before .before in
+    let l = c .before .before in (
+      ap (λ (x : ℕ). lex x (quad (l .load .result) .k)) (c .before .eval .ensures .0) ∙ ap (λ (q : Quad). value q (s .args .base + s .args .j)) (l .load .ensures ∙ sym (piece-there (l .before .before .before .loop .inv) (s .pre .1 .0) (l .before .if1 .left))),
+      whole l .0 .few,
+    )
 
 pub value-at-spec : {M : Type 1} → statement M
 value-at-spec =

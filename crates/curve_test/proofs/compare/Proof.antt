@@ -37,9 +37,6 @@ loop-holds c = (omega arith, refl)
 value-requires : tie.Need-value-requires Inv-loop μ-loop
 value-requires c κs = search needs
 
-wrapping-add-usize-requires : tie.Need-wrapping-add-usize-requires Inv-loop μ-loop
-wrapping-add-usize-requires c κs = search needs
-
 put-requires : tie.Need-put-requires Inv-loop μ-loop
 put-requires c κs = search needs
 
@@ -81,7 +78,6 @@ compare-spec =
     add-to
     loop-holds
     value-requires
-    wrapping-add-usize-requires
     put-requires
     mul-value
     value-requires-2

@@ -1,9 +1,10 @@
 -- `edges::take`: the least of two lists. Assumes nothing.
-use Prim.Native.Nat.{_+_, _-_}
+use Prim.Native.Nat.{_+_, _-_, _≤_}
 use native.Mathlib.Omega.{arith}
 use borrow.Author.Needs.{needs}
-use Rattle.curve.specs.Curve.{Limits, curve-reads, curve-sized, curve-raised, curve-yields}
-use Rattle.edges.proofs.Moves.{lower-limits, joined}
+use Rattle.curve.specs.Curve.{curve-reads, curve-sized, curve-raised, curve-yields}
+use Rattle.edges.specs.Edge.{most}
+use Rattle.edges.proofs.Moves.{joined}
 use Rattle.edges.proofs.take.Statement.{statement}
 use Rattle.edges.proofs.take.Tie as tie
 
@@ -12,11 +13,12 @@ least-of-two-requires c κs =
     let s = c .before .before in
     let h = s .pre .0 .0 in
     let l = s .pre .1 .0 in
-    let e : Limits 1048576 (18014398509481984 - s .args .pen + s .args .pen) (s .args .base) (s .args .levels) = lower-limits _ (omega (arith, s .pre .0 .1)) l in
+    let x : most - 1 + s .args .ch ≤ most = omega (arith, s .pre .0 .1 .1) in
+    let y : 18014398509481984 - s .args .pen + s .args .pen ≤ 18014398509481984 = omega (arith, s .pre .0 .1 .0) in
     let a = s .pre .1 .1 .0 in
     let g = s .pre .1 .1 .1 in (
       (curve-reads (s .args .next) a (h .acc-next), (curve-reads (s .args .next) g (h .g-next), h .room-next)),
-      ((omega (arith, s .pre .0 .1), l .high), (curve-sized l a, (curve-raised (s .args .pen) e g, curve-yields (s .args .pen) (omega (arith, s .pre .0 .1)) l a g))),
+      ((omega (arith, s .pre .0 .1), l .high), (curve-sized l a, (curve-raised (s .args .pen) (s .args .ch) x y l g, curve-yields (s .args .pen) (s .args .ch) x y l g a))),
     )
 
 same-length : tie.Need-same-length

@@ -1,5 +1,6 @@
 -- `edges::take_any`: the least at the other levels, and the least of it and of what was there. Assumes nothing.
 use borrow.Author.Needs.{needs}
+use native.Mathlib.Omega.{arith}
 use Rattle.edges.proofs.Moves.{stands-joint, stands-acc, stands-work, stands-taken}
 use Rattle.edges.proofs.take_any.Statement.{statement}
 use Rattle.edges.proofs.take_any.Tie as tie
@@ -11,7 +12,7 @@ take-requires : tie.Need-take-requires
 take-requires c κs =
     let s = c .before .before .before .before .before .before in
     let m = c .before .before .before .any-into .ensures in
-    ((stands-joint (s .pre) m, s .pre .low), (s .pre .limits, (stands-acc (s .pre) m, stands-work (s .pre) m)))
+    ((stands-joint (s .pre) m, (s .pre .low, omega arith)), (s .pre .limits, (stands-acc (s .pre) m, stands-work (s .pre) m)))
 
 same-length : tie.Need-same-length
 same-length c = search needs

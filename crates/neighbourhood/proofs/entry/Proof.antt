@@ -11,10 +11,10 @@ best-end-requires : tie.Need-best-end-requires
 best-end-requires c κs = search needs
 
 returns : tie.Need-returns
-returns c = λ H r. entry-cost (c .before .best-end .ensures H r) (c .if1 .taken)
+returns c = λ H r. entry-cost (c .before .best-end .ensures .0) (c .before .best-end .ensures .1 H r) (c .if1 .taken)
 
 returns-2 : tie.Need-returns-2
-returns-2 c = λ H r. entry-none (c .before .best-end .ensures H r) (c .if1 .left)
+returns-2 c = λ H r. entry-none (c .before .best-end .ensures .0) (c .before .best-end .ensures .1 H r) (c .if1 .left)
 
 pub entry-spec : {M : Type 1} → statement M
 entry-spec =

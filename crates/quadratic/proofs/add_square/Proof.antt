@@ -3,7 +3,8 @@ use Prim.Native.Nat.{_*_, _≤_}
 use native.Mathlib.Omega.{arith}
 use borrow.Author.Needs.{needs}
 use borrow.Author.Tests.{eq-eqb, ne-eqb}
-use Rattle.quadratic.specs.Fine.{prod≤}
+use mathlib.Core.Path.{refl}
+use Rattle.quadratic.specs.Fine.{prod≤, quad-eq}
 use Rattle.quadratic.proofs.add_square.Statement.{statement}
 use Rattle.quadratic.proofs.add_square.Tie as tie
 
@@ -36,7 +37,7 @@ returns : tie.Need-returns
 returns c = simp (eq-eqb _ _ (c .if1 .taken))
 
 returns-2 : tie.Need-returns-2
-returns-2 c = simp (ne-eqb _ _ (c .before .before .before .if1 .left))
+returns-2 c = simp (ne-eqb _ _ (c .before .before .before .if1 .left)) (quad-eq _ _ (omega (arith, c .before .before .before .before .before .pre)) refl refl (omega (arith, c .before .before .before .before .before .pre)))
 
 pub add-square-spec : {M : Type 1} → statement M
 add-square-spec = tie.close (tie.spec add-t6 mul-t7 add-t8 mul-t9 mul-t10 add-t11 returns returns-2)

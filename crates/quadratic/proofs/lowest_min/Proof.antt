@@ -2,8 +2,7 @@
 use mathlib.Core.Path.{_≡_}
 use Prim.Native.Nat.{ℕ, _-_}
 use native.Mathlib.Omega.{arith}
-use Rattle.quadratic.specs.declared.Quad.{Quad}
-use Rattle.quadratic.specs.Quad.{Lowest}
+use Rattle.quadratic.specs.Quad.{Quad, Lowest}
 use Rattle.quadratic.specs.Places.{lowestPlace, lowest-is}
 use Rattle.quadratic.proofs.Laws.{lowest-at-turn, level, slope}
 use Rattle.quadratic.proofs.lowest_min.Statement.{statement}

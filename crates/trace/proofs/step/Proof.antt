@@ -44,7 +44,7 @@ sub-want : tie.Need-sub-want
 sub-want c = loss-fits (c .before .before .before .before .before .before .before .before .before .pre .0) (c .before .square-of .result) (loss-is (c .before .before .before .before .before .before .before .before .before .pre .0) (c .before .before .before .before .bias .result) (c .before .square-of .result) (reading-is (getD (c .before .before .before .before .before .before .before .before .before .args .readings .now) (c .before .before .before .before .before .before .before .before .before .args .t) (pos 0)) (c .before .before .before .before .bias .result) (c .before .before .before .before .before .bias-arg .given) (c .before .before .before .before .bias .ensures .0)) (c .before .square-of .ensures))
 
 step-back-requires : tie.Need-step-back-requires
-step-back-requires c κs = (readable (c .before .before .before .before .before .before .before .before .before .pre .0) (c .before .before .before .before .before .before .label-on .ensures), (back-ready (c .before .before .before .before .before .before .before .before .before .pre .0) (c .before .before .before .before .before .before .label-on .ensures), c .before .before .before .before .before .before .before .before .before .pre .1))
+step-back-requires c κs = (readable (c .before .before .before .before .before .before .before .before .before .pre .0) (c .before .before .before .before .before .before .label-on .ensures), ((back-ready (c .before .before .before .before .before .before .before .before .before .pre .0) (c .before .before .before .before .before .before .label-on .ensures), c .before .before .before .before .before .before .before .before .before .pre .0 .here .changes), c .before .before .before .before .before .before .before .before .before .pre .1))
 
 enum-known-found : tie.Need-enum-known-found
 enum-known-found c = search needs
@@ -56,7 +56,7 @@ returns : tie.Need-returns
 returns c = absurd (lost-at (c .before .before .before .before .before .before .before .before .before .before .before .before .pre .0 .task .ready) (c .before .before .before .before .before .before .before .before .before .before .before .before .args .t) (c .before .before .before .before .before .before .before .before .before .before .before .before .pre .0 .positive) (c .before .before .before .before .before .before .before .before .before .before .before .before .pre .0 .more) (c .before .before .before .before .before .before .before .before .before .before .before .before .pre .0 .here) _ (want-is (c .before .before .before .before .before .before .before .before .before .before .before .before .pre .0) (c .before .before .before .before .square-of .result) (loss-is (c .before .before .before .before .before .before .before .before .before .before .before .before .pre .0) (c .before .before .before .before .before .before .before .bias .result) (c .before .before .before .before .square-of .result) (reading-is (getD (c .before .before .before .before .before .before .before .before .before .before .before .before .args .readings .now) (c .before .before .before .before .before .before .before .before .before .before .before .before .args .t) (pos 0)) (c .before .before .before .before .before .before .before .bias .result) (c .before .before .before .before .before .before .before .before .bias-arg .given) (c .before .before .before .before .before .before .before .bias .ensures .0)) (c .before .before .before .before .square-of .ensures))) (lost-of (c .before .before .before .before .before .before .before .before .before .before .before .before .args .plan) _ _ _ _ _ _ (c .before .before .step-back .result) (c .before .before .step-back .ensures _ (reads-here (c .before .before .before .before .before .before .before .before .before .before .before .before .pre .0) (c .before .before .before .before .before .before .before .before .before .label-on .ensures))) (c .enum-told .given .1)))
 
 edge-in-requires : tie.Need-edge-in-requires
-edge-in-requires c κs = omega (arith, (found-of (c .before .before .before .before .before .before .before .before .before .before .before .before .before .args .plan) _ _ _ _ _ _ (c .before .before .before .step-back .result) (c .before .before .before .step-back .ensures _ (reads-here (c .before .before .before .before .before .before .before .before .before .before .before .before .before .pre .0) (c .before .before .before .before .before .before .before .before .before .before .label-on .ensures))) (c .before .found .given .1)) .known, c .before .before .before .before .before .before .before .before .before .before .before .before .before .pre .0 .task .ready .plan .few-edges, c .before .before .before .before .before .before .before .before .before .before .before .before .before .pre .1 .front .size)
+edge-in-requires c κs = omega (arith, (found-of (c .before .before .before .before .before .before .before .before .before .before .before .before .before .args .plan) _ _ _ _ _ _ (c .before .before .before .step-back .result) (c .before .before .before .step-back .ensures _ (reads-here (c .before .before .before .before .before .before .before .before .before .before .before .before .before .pre .0) (c .before .before .before .before .before .before .before .before .before .before .label-on .ensures))) (c .before .found .given .1)) .0 .known, c .before .before .before .before .before .before .before .before .before .before .before .before .before .pre .0 .task .ready .plan .few-edges, c .before .before .before .before .before .before .before .before .before .before .before .before .before .pre .1 .front .size)
 
 count-before-requires : tie.Need-count-before-requires
 count-before-requires c κs = (omega (arith, c .before .before .before .before .before .before .before .before .before .before .before .before .before .before .pre .0 .more, c .before .before .before .before .before .before .before .before .before .before .before .before .before .before .pre .0 .task .ready .few-readings), omega (arith, c .before .before .before .before .before .before .before .before .before .before .before .before .before .before .pre .0 .here .count))
@@ -68,25 +68,25 @@ joins-run-requires : tie.Need-joins-run-requires
 joins-run-requires c κs = search needs
 
 returns-2 : tie.Need-returns-2
-returns-2 c = joined-at (c .before .before .before .before .before .before .before .before .before .before .before .before .before .before .before .before .before .before .pre .0 .task .ready) (c .before .before .before .before .before .before .before .before .before .before .before .before .before .before .before .before .before .before .args .t) (c .before .before .before .before .before .before .before .before .before .before .before .before .before .before .before .before .before .before .pre .0 .positive) (c .before .before .before .before .before .before .before .before .before .before .before .before .before .before .before .before .before .before .pre .0 .more) (c .before .before .before .before .before .before .before .before .before .before .before .before .before .before .before .before .before .before .pre .0 .here) _ (want-is (c .before .before .before .before .before .before .before .before .before .before .before .before .before .before .before .before .before .before .pre .0) (c .before .before .before .before .before .before .before .before .before .before .square-of .result) (loss-is (c .before .before .before .before .before .before .before .before .before .before .before .before .before .before .before .before .before .before .pre .0) (c .before .before .before .before .before .before .before .before .before .before .before .before .before .bias .result) (c .before .before .before .before .before .before .before .before .before .before .square-of .result) (reading-is (getD (c .before .before .before .before .before .before .before .before .before .before .before .before .before .before .before .before .before .before .args .readings .now) (c .before .before .before .before .before .before .before .before .before .before .before .before .before .before .before .before .before .before .args .t) (pos 0)) (c .before .before .before .before .before .before .before .before .before .before .before .before .before .bias .result) (c .before .before .before .before .before .before .before .before .before .before .before .before .before .before .bias-arg .given) (c .before .before .before .before .before .before .before .before .before .before .before .before .before .bias .ensures .0)) (c .before .before .before .before .before .before .before .before .before .before .square-of .ensures))) (c .before .before .before .before .before .before .before .before .before .before .before .before .before .before .before .before .before .before .pre .0 .last) (found-of (c .before .before .before .before .before .before .before .before .before .before .before .before .before .before .before .before .before .before .args .plan) _ _ _ _ _ _ (c .before .before .before .before .before .before .before .before .step-back .result) (c .before .before .before .before .before .before .before .before .step-back .ensures _ (reads-here (c .before .before .before .before .before .before .before .before .before .before .before .before .before .before .before .before .before .before .pre .0) (c .before .before .before .before .before .before .before .before .before .before .before .before .before .before .before .label-on .ensures))) (c .before .before .before .before .before .before .found .given .1)) (count-of (c .before .before .before .before .before .before .before .before .before .before .before .before .before .before .before .before .before .before .args .plan) _ (c .before .before .before .before .edge-in .result) (edge-got (c .before .before .before .before .before .before .before .before .before .before .before .before .before .before .before .before .before .before .args .plan) _ _ (c .before .before .before .before .before .before .before .before .before .before .before .before .before .before .before .before .before .before .pre .1) (omega (arith, (found-of (c .before .before .before .before .before .before .before .before .before .before .before .before .before .before .before .before .before .before .args .plan) _ _ _ _ _ _ (c .before .before .before .before .before .before .before .before .step-back .result) (c .before .before .before .before .before .before .before .before .step-back .ensures _ (reads-here (c .before .before .before .before .before .before .before .before .before .before .before .before .before .before .before .before .before .before .pre .0) (c .before .before .before .before .before .before .before .before .before .before .before .before .before .before .before .label-on .ensures))) (c .before .before .before .before .before .before .found .given .1)) .known, c .before .before .before .before .before .before .before .before .before .before .before .before .before .before .before .before .before .before .pre .0 .task .ready .plan .few-edges)) (c .before .before .before .before .edge-in .ensures)) _ _ _ _ (c .before .before .before .before .before .before .before .before .before .before .before .before .before .before .before .label-on .ensures) (c .before .before .before .count-before .ensures .0)) (ap (λ x. x .from) (edge-got (c .before .before .before .before .before .before .before .before .before .before .before .before .before .before .before .before .before .before .args .plan) _ _ (c .before .before .before .before .before .before .before .before .before .before .before .before .before .before .before .before .before .before .pre .1) (omega (arith, (found-of (c .before .before .before .before .before .before .before .before .before .before .before .before .before .before .before .before .before .before .args .plan) _ _ _ _ _ _ (c .before .before .before .before .before .before .before .before .step-back .result) (c .before .before .before .before .before .before .before .before .step-back .ensures _ (reads-here (c .before .before .before .before .before .before .before .before .before .before .before .before .before .before .before .before .before .before .pre .0) (c .before .before .before .before .before .before .before .before .before .before .before .before .before .before .before .label-on .ensures))) (c .before .before .before .before .before .before .found .given .1)) .known, c .before .before .before .before .before .before .before .before .before .before .before .before .before .before .before .before .before .before .pre .0 .task .ready .plan .few-edges)) (c .before .before .before .before .edge-in .ensures))) (joins-of (c .before .before .before .before .before .before .before .before .before .before .before .before .before .before .before .before .before .before .args .plan) _ _ (edge-got (c .before .before .before .before .before .before .before .before .before .before .before .before .before .before .before .before .before .before .args .plan) _ _ (c .before .before .before .before .before .before .before .before .before .before .before .before .before .before .before .before .before .before .pre .1) (omega (arith, (found-of (c .before .before .before .before .before .before .before .before .before .before .before .before .before .before .before .before .before .before .args .plan) _ _ _ _ _ _ (c .before .before .before .before .before .before .before .before .step-back .result) (c .before .before .before .before .before .before .before .before .step-back .ensures _ (reads-here (c .before .before .before .before .before .before .before .before .before .before .before .before .before .before .before .before .before .before .pre .0) (c .before .before .before .before .before .before .before .before .before .before .before .before .before .before .before .label-on .ensures))) (c .before .before .before .before .before .before .found .given .1)) .known, c .before .before .before .before .before .before .before .before .before .before .before .before .before .before .before .before .before .before .pre .0 .task .ready .plan .few-edges)) (c .before .before .before .before .edge-in .ensures)) (c .before .joins-run .ensures) (c .if1 .taken))
+returns-2 c = joined-at (c .before .before .before .before .before .before .before .before .before .before .before .before .before .before .before .before .before .before .pre .0 .task .ready) (c .before .before .before .before .before .before .before .before .before .before .before .before .before .before .before .before .before .before .args .t) (c .before .before .before .before .before .before .before .before .before .before .before .before .before .before .before .before .before .before .pre .0 .positive) (c .before .before .before .before .before .before .before .before .before .before .before .before .before .before .before .before .before .before .pre .0 .more) (c .before .before .before .before .before .before .before .before .before .before .before .before .before .before .before .before .before .before .pre .0 .here) _ (want-is (c .before .before .before .before .before .before .before .before .before .before .before .before .before .before .before .before .before .before .pre .0) (c .before .before .before .before .before .before .before .before .before .before .square-of .result) (loss-is (c .before .before .before .before .before .before .before .before .before .before .before .before .before .before .before .before .before .before .pre .0) (c .before .before .before .before .before .before .before .before .before .before .before .before .before .bias .result) (c .before .before .before .before .before .before .before .before .before .before .square-of .result) (reading-is (getD (c .before .before .before .before .before .before .before .before .before .before .before .before .before .before .before .before .before .before .args .readings .now) (c .before .before .before .before .before .before .before .before .before .before .before .before .before .before .before .before .before .before .args .t) (pos 0)) (c .before .before .before .before .before .before .before .before .before .before .before .before .before .bias .result) (c .before .before .before .before .before .before .before .before .before .before .before .before .before .before .bias-arg .given) (c .before .before .before .before .before .before .before .before .before .before .before .before .before .bias .ensures .0)) (c .before .before .before .before .before .before .before .before .before .before .square-of .ensures))) (c .before .before .before .before .before .before .before .before .before .before .before .before .before .before .before .before .before .before .pre .0 .last) (found-of (c .before .before .before .before .before .before .before .before .before .before .before .before .before .before .before .before .before .before .args .plan) _ _ _ _ _ _ (c .before .before .before .before .before .before .before .before .step-back .result) (c .before .before .before .before .before .before .before .before .step-back .ensures _ (reads-here (c .before .before .before .before .before .before .before .before .before .before .before .before .before .before .before .before .before .before .pre .0) (c .before .before .before .before .before .before .before .before .before .before .before .before .before .before .before .label-on .ensures))) (c .before .before .before .before .before .before .found .given .1) .0) (found-of (c .before .before .before .before .before .before .before .before .before .before .before .before .before .before .before .before .before .before .args .plan) _ _ _ _ _ _ (c .before .before .before .before .before .before .before .before .step-back .result) (c .before .before .before .before .before .before .before .before .step-back .ensures _ (reads-here (c .before .before .before .before .before .before .before .before .before .before .before .before .before .before .before .before .before .before .pre .0) (c .before .before .before .before .before .before .before .before .before .before .before .before .before .before .before .label-on .ensures))) (c .before .before .before .before .before .before .found .given .1) .1) (count-of (c .before .before .before .before .before .before .before .before .before .before .before .before .before .before .before .before .before .before .args .plan) _ (c .before .before .before .before .edge-in .result) (edge-got (c .before .before .before .before .before .before .before .before .before .before .before .before .before .before .before .before .before .before .args .plan) _ _ (c .before .before .before .before .before .before .before .before .before .before .before .before .before .before .before .before .before .before .pre .1) (omega (arith, (found-of (c .before .before .before .before .before .before .before .before .before .before .before .before .before .before .before .before .before .before .args .plan) _ _ _ _ _ _ (c .before .before .before .before .before .before .before .before .step-back .result) (c .before .before .before .before .before .before .before .before .step-back .ensures _ (reads-here (c .before .before .before .before .before .before .before .before .before .before .before .before .before .before .before .before .before .before .pre .0) (c .before .before .before .before .before .before .before .before .before .before .before .before .before .before .before .label-on .ensures))) (c .before .before .before .before .before .before .found .given .1)) .0 .known, c .before .before .before .before .before .before .before .before .before .before .before .before .before .before .before .before .before .before .pre .0 .task .ready .plan .few-edges)) (c .before .before .before .before .edge-in .ensures)) _ _ _ _ (c .before .before .before .before .before .before .before .before .before .before .before .before .before .before .before .label-on .ensures) (c .before .before .before .count-before .ensures .0)) (ap (λ x. x .from) (edge-got (c .before .before .before .before .before .before .before .before .before .before .before .before .before .before .before .before .before .before .args .plan) _ _ (c .before .before .before .before .before .before .before .before .before .before .before .before .before .before .before .before .before .before .pre .1) (omega (arith, (found-of (c .before .before .before .before .before .before .before .before .before .before .before .before .before .before .before .before .before .before .args .plan) _ _ _ _ _ _ (c .before .before .before .before .before .before .before .before .step-back .result) (c .before .before .before .before .before .before .before .before .step-back .ensures _ (reads-here (c .before .before .before .before .before .before .before .before .before .before .before .before .before .before .before .before .before .before .pre .0) (c .before .before .before .before .before .before .before .before .before .before .before .before .before .before .before .label-on .ensures))) (c .before .before .before .before .before .before .found .given .1)) .0 .known, c .before .before .before .before .before .before .before .before .before .before .before .before .before .before .before .before .before .before .pre .0 .task .ready .plan .few-edges)) (c .before .before .before .before .edge-in .ensures))) (joins-of (c .before .before .before .before .before .before .before .before .before .before .before .before .before .before .before .before .before .before .args .plan) _ _ (edge-got (c .before .before .before .before .before .before .before .before .before .before .before .before .before .before .before .before .before .before .args .plan) _ _ (c .before .before .before .before .before .before .before .before .before .before .before .before .before .before .before .before .before .before .pre .1) (omega (arith, (found-of (c .before .before .before .before .before .before .before .before .before .before .before .before .before .before .before .before .before .before .args .plan) _ _ _ _ _ _ (c .before .before .before .before .before .before .before .before .step-back .result) (c .before .before .before .before .before .before .before .before .step-back .ensures _ (reads-here (c .before .before .before .before .before .before .before .before .before .before .before .before .before .before .before .before .before .before .pre .0) (c .before .before .before .before .before .before .before .before .before .before .before .before .before .before .before .label-on .ensures))) (c .before .before .before .before .before .before .found .given .1)) .0 .known, c .before .before .before .before .before .before .before .before .before .before .before .before .before .before .before .before .before .before .pre .0 .task .ready .plan .few-edges)) (c .before .before .before .before .edge-in .ensures)) (c .before .joins-run .ensures) (c .if1 .taken))
 
 add-run-of : tie.Need-add-run-of
 add-run-of c = omega (arith, c .before .before .before .before .before .before .before .before .before .before .before .before .before .before .before .before .before .before .pre .0 .more, c .before .before .before .before .before .before .before .before .before .before .before .before .before .before .before .before .before .before .pre .0 .task .ready .few-readings)
 
 run-of-requires : tie.Need-run-of-requires
-run-of-requires c κs = let few = (found-of (c .before .before .before .before .before .before .before .before .before .before .before .before .before .before .before .before .before .before .before .args .plan) _ _ _ _ _ _ (c .before .before .before .before .before .before .before .before .before .step-back .result) (c .before .before .before .before .before .before .before .before .before .step-back .ensures _ (reads-here (c .before .before .before .before .before .before .before .before .before .before .before .before .before .before .before .before .before .before .before .pre .0) (c .before .before .before .before .before .before .before .before .before .before .before .before .before .before .before .before .label-on .ensures))) (c .before .before .before .before .before .before .before .found .given .1)) .known in ((omega (arith, c .before .before .before .before .before .before .before .before .before .before .before .before .before .before .before .before .before .before .before .pre .0 .more, c .before .before .before .before .before .before .before .before .before .before .before .before .before .before .before .before .before .before .before .pre .0 .task .ready .few-readings), omega (arith, c .before .before .before .before .before .before .before .before .before .before .before .before .before .before .before .before .before .before .before .pre .0 .last, c .before .before .before .before .before .before .before .before .before .before .before .before .before .before .before .before .before .before .before .pre .0 .task .ready .few-readings)), (omega (arith, c .before .before .before .before .before .before .before .before .before .before .before .before .before .before .before .before .before .before .before .pre .0 .here .state, c .before .before .before .before .before .before .before .before .before .before .before .before .before .before .before .before .before .before .before .pre .0 .task .ready .plan .few-states), (omega (arith, c .before .before .before .before .before .before .before .before .before .before .before .before .before .before .before .before .before .before .before .pre .0 .here .level, c .before .before .before .before .before .before .before .before .before .before .before .before .before .before .before .before .before .before .before .pre .0 .task .ready .plan .narrow), omega (arith, few, c .before .before .before .before .before .before .before .before .before .before .before .before .before .before .before .before .before .before .before .pre .0 .task .ready .plan .few-edges))))
+run-of-requires c κs = let few = (found-of (c .before .before .before .before .before .before .before .before .before .before .before .before .before .before .before .before .before .before .before .args .plan) _ _ _ _ _ _ (c .before .before .before .before .before .before .before .before .before .step-back .result) (c .before .before .before .before .before .before .before .before .before .step-back .ensures _ (reads-here (c .before .before .before .before .before .before .before .before .before .before .before .before .before .before .before .before .before .before .before .pre .0) (c .before .before .before .before .before .before .before .before .before .before .before .before .before .before .before .before .label-on .ensures))) (c .before .before .before .before .before .before .before .found .given .1)) .0 .known in ((omega (arith, c .before .before .before .before .before .before .before .before .before .before .before .before .before .before .before .before .before .before .before .pre .0 .more, c .before .before .before .before .before .before .before .before .before .before .before .before .before .before .before .before .before .before .before .pre .0 .task .ready .few-readings), omega (arith, c .before .before .before .before .before .before .before .before .before .before .before .before .before .before .before .before .before .before .before .pre .0 .last, c .before .before .before .before .before .before .before .before .before .before .before .before .before .before .before .before .before .before .before .pre .0 .task .ready .few-readings)), (omega (arith, c .before .before .before .before .before .before .before .before .before .before .before .before .before .before .before .before .before .before .before .pre .0 .here .state, c .before .before .before .before .before .before .before .before .before .before .before .before .before .before .before .before .before .before .before .pre .0 .task .ready .plan .few-states), (omega (arith, c .before .before .before .before .before .before .before .before .before .before .before .before .before .before .before .before .before .before .before .pre .0 .here .level, c .before .before .before .before .before .before .before .before .before .before .before .before .before .before .before .before .before .before .before .pre .0 .task .ready .plan .narrow), omega (arith, few, c .before .before .before .before .before .before .before .before .before .before .before .before .before .before .before .before .before .before .before .pre .0 .task .ready .plan .few-edges))))
 
 put-run-requires : tie.Need-put-run-requires
 put-run-requires c κs = (omega (arith, c .before .before .before .before .before .before .before .before .before .before .before .before .before .before .before .before .before .before .before .before .before .pre .0 .few), c .before .before .before .before .before .before .before .before .before .before .before .before .before .before .before .before .before .before .before .before .before .pre .0 .room)
 
-add-t22 : tie.Need-add-t22
-add-t22 c = omega (arith, c .before .before .before .before .before .before .before .before .before .before .before .before .before .before .before .before .before .before .before .before .before .before .before .before .pre .0 .few)
+add-t23 : tie.Need-add-t23
+add-t23 c = omega (arith, c .before .before .before .before .before .before .before .before .before .before .before .before .before .before .before .before .before .before .before .before .before .before .before .before .pre .0 .few)
 
 same-length : tie.Need-same-length
 same-length c = c .before .before .put-run .ensures .size
 
 returns-3 : tie.Need-returns-3
-returns-3 c = put-at (c .before .before .before .before .before .before .before .before .before .before .before .before .before .before .before .before .before .before .before .before .before .before .before .before .pre .0 .task .ready) (c .before .before .before .before .before .before .before .before .before .before .before .before .before .before .before .before .before .before .before .before .before .before .before .before .args .t) (c .before .before .before .before .before .before .before .before .before .before .before .before .before .before .before .before .before .before .before .before .before .before .before .before .pre .0 .positive) (c .before .before .before .before .before .before .before .before .before .before .before .before .before .before .before .before .before .before .before .before .before .before .before .before .pre .0 .more) (c .before .before .before .before .before .before .before .before .before .before .before .before .before .before .before .before .before .before .before .before .before .before .before .before .pre .0 .here) _ (want-is (c .before .before .before .before .before .before .before .before .before .before .before .before .before .before .before .before .before .before .before .before .before .before .before .before .pre .0) (c .before .before .before .before .before .before .before .before .before .before .before .before .before .before .before .before .square-of .result) (loss-is (c .before .before .before .before .before .before .before .before .before .before .before .before .before .before .before .before .before .before .before .before .before .before .before .before .pre .0) (c .before .before .before .before .before .before .before .before .before .before .before .before .before .before .before .before .before .before .before .bias .result) (c .before .before .before .before .before .before .before .before .before .before .before .before .before .before .before .before .square-of .result) (reading-is (getD (c .before .before .before .before .before .before .before .before .before .before .before .before .before .before .before .before .before .before .before .before .before .before .before .before .args .readings .now) (c .before .before .before .before .before .before .before .before .before .before .before .before .before .before .before .before .before .before .before .before .before .before .before .before .args .t) (pos 0)) (c .before .before .before .before .before .before .before .before .before .before .before .before .before .before .before .before .before .before .before .bias .result) (c .before .before .before .before .before .before .before .before .before .before .before .before .before .before .before .before .before .before .before .before .bias-arg .given) (c .before .before .before .before .before .before .before .before .before .before .before .before .before .before .before .before .before .before .before .bias .ensures .0)) (c .before .before .before .before .before .before .before .before .before .before .before .before .before .before .before .before .square-of .ensures))) (c .before .before .before .before .before .before .before .before .before .before .before .before .before .before .before .before .before .before .before .before .before .before .before .before .pre .0 .last) (found-of (c .before .before .before .before .before .before .before .before .before .before .before .before .before .before .before .before .before .before .before .before .before .before .before .before .args .plan) _ _ _ _ _ _ (c .before .before .before .before .before .before .before .before .before .before .before .before .before .before .step-back .result) (c .before .before .before .before .before .before .before .before .before .before .before .before .before .before .step-back .ensures _ (reads-here (c .before .before .before .before .before .before .before .before .before .before .before .before .before .before .before .before .before .before .before .before .before .before .before .before .pre .0) (c .before .before .before .before .before .before .before .before .before .before .before .before .before .before .before .before .before .before .before .before .before .label-on .ensures))) (c .before .before .before .before .before .before .before .before .before .before .before .before .found .given .1)) (count-of (c .before .before .before .before .before .before .before .before .before .before .before .before .before .before .before .before .before .before .before .before .before .before .before .before .args .plan) _ (c .before .before .before .before .before .before .before .before .before .before .edge-in .result) (edge-got (c .before .before .before .before .before .before .before .before .before .before .before .before .before .before .before .before .before .before .before .before .before .before .before .before .args .plan) _ _ (c .before .before .before .before .before .before .before .before .before .before .before .before .before .before .before .before .before .before .before .before .before .before .before .before .pre .1) (omega (arith, (found-of (c .before .before .before .before .before .before .before .before .before .before .before .before .before .before .before .before .before .before .before .before .before .before .before .before .args .plan) _ _ _ _ _ _ (c .before .before .before .before .before .before .before .before .before .before .before .before .before .before .step-back .result) (c .before .before .before .before .before .before .before .before .before .before .before .before .before .before .step-back .ensures _ (reads-here (c .before .before .before .before .before .before .before .before .before .before .before .before .before .before .before .before .before .before .before .before .before .before .before .before .pre .0) (c .before .before .before .before .before .before .before .before .before .before .before .before .before .before .before .before .before .before .before .before .before .label-on .ensures))) (c .before .before .before .before .before .before .before .before .before .before .before .before .found .given .1)) .known, c .before .before .before .before .before .before .before .before .before .before .before .before .before .before .before .before .before .before .before .before .before .before .before .before .pre .0 .task .ready .plan .few-edges)) (c .before .before .before .before .before .before .before .before .before .before .edge-in .ensures)) _ _ _ _ (c .before .before .before .before .before .before .before .before .before .before .before .before .before .before .before .before .before .before .before .before .before .label-on .ensures) (c .before .before .before .before .before .before .before .before .before .count-before .ensures .0)) (ap (λ x. x .from) (edge-got (c .before .before .before .before .before .before .before .before .before .before .before .before .before .before .before .before .before .before .before .before .before .before .before .before .args .plan) _ _ (c .before .before .before .before .before .before .before .before .before .before .before .before .before .before .before .before .before .before .before .before .before .before .before .before .pre .1) (omega (arith, (found-of (c .before .before .before .before .before .before .before .before .before .before .before .before .before .before .before .before .before .before .before .before .before .before .before .before .args .plan) _ _ _ _ _ _ (c .before .before .before .before .before .before .before .before .before .before .before .before .before .before .step-back .result) (c .before .before .before .before .before .before .before .before .before .before .before .before .before .before .step-back .ensures _ (reads-here (c .before .before .before .before .before .before .before .before .before .before .before .before .before .before .before .before .before .before .before .before .before .before .before .before .pre .0) (c .before .before .before .before .before .before .before .before .before .before .before .before .before .before .before .before .before .before .before .before .before .label-on .ensures))) (c .before .before .before .before .before .before .before .before .before .before .before .before .found .given .1)) .known, c .before .before .before .before .before .before .before .before .before .before .before .before .before .before .before .before .before .before .before .before .before .before .before .before .pre .0 .task .ready .plan .few-edges)) (c .before .before .before .before .before .before .before .before .before .before .edge-in .ensures))) (joins-of (c .before .before .before .before .before .before .before .before .before .before .before .before .before .before .before .before .before .before .before .before .before .before .before .before .args .plan) _ _ (edge-got (c .before .before .before .before .before .before .before .before .before .before .before .before .before .before .before .before .before .before .before .before .before .before .before .before .args .plan) _ _ (c .before .before .before .before .before .before .before .before .before .before .before .before .before .before .before .before .before .before .before .before .before .before .before .before .pre .1) (omega (arith, (found-of (c .before .before .before .before .before .before .before .before .before .before .before .before .before .before .before .before .before .before .before .before .before .before .before .before .args .plan) _ _ _ _ _ _ (c .before .before .before .before .before .before .before .before .before .before .before .before .before .before .step-back .result) (c .before .before .before .before .before .before .before .before .before .before .before .before .before .before .step-back .ensures _ (reads-here (c .before .before .before .before .before .before .before .before .before .before .before .before .before .before .before .before .before .before .before .before .before .before .before .before .pre .0) (c .before .before .before .before .before .before .before .before .before .before .before .before .before .before .before .before .before .before .before .before .before .label-on .ensures))) (c .before .before .before .before .before .before .before .before .before .before .before .before .found .given .1)) .known, c .before .before .before .before .before .before .before .before .before .before .before .before .before .before .before .before .before .before .before .before .before .before .before .before .pre .0 .task .ready .plan .few-edges)) (c .before .before .before .before .before .before .before .before .before .before .edge-in .ensures)) (c .before .before .before .before .before .before .before .joins-run .ensures) (c .before .before .before .before .before .before .if1 .left)) (five-is _ _ _ (c .before .before .before .before .before .before .before .before .before .before .before .before .before .before .before .before .before .before .before .before .before .before .before .before .args .plan .lo) _ _ _ (c .before .before .before .before .before .struct-told .given .0 .1) (c .before .before .before .before .run-of .ensures)) (c .before .before .put-run .ensures)
+returns-3 c = put-at (c .before .before .before .before .before .before .before .before .before .before .before .before .before .before .before .before .before .before .before .before .before .before .before .before .pre .0 .task .ready) (c .before .before .before .before .before .before .before .before .before .before .before .before .before .before .before .before .before .before .before .before .before .before .before .before .args .t) (c .before .before .before .before .before .before .before .before .before .before .before .before .before .before .before .before .before .before .before .before .before .before .before .before .pre .0 .positive) (c .before .before .before .before .before .before .before .before .before .before .before .before .before .before .before .before .before .before .before .before .before .before .before .before .pre .0 .more) (c .before .before .before .before .before .before .before .before .before .before .before .before .before .before .before .before .before .before .before .before .before .before .before .before .pre .0 .here) _ (want-is (c .before .before .before .before .before .before .before .before .before .before .before .before .before .before .before .before .before .before .before .before .before .before .before .before .pre .0) (c .before .before .before .before .before .before .before .before .before .before .before .before .before .before .before .before .square-of .result) (loss-is (c .before .before .before .before .before .before .before .before .before .before .before .before .before .before .before .before .before .before .before .before .before .before .before .before .pre .0) (c .before .before .before .before .before .before .before .before .before .before .before .before .before .before .before .before .before .before .before .bias .result) (c .before .before .before .before .before .before .before .before .before .before .before .before .before .before .before .before .square-of .result) (reading-is (getD (c .before .before .before .before .before .before .before .before .before .before .before .before .before .before .before .before .before .before .before .before .before .before .before .before .args .readings .now) (c .before .before .before .before .before .before .before .before .before .before .before .before .before .before .before .before .before .before .before .before .before .before .before .before .args .t) (pos 0)) (c .before .before .before .before .before .before .before .before .before .before .before .before .before .before .before .before .before .before .before .bias .result) (c .before .before .before .before .before .before .before .before .before .before .before .before .before .before .before .before .before .before .before .before .bias-arg .given) (c .before .before .before .before .before .before .before .before .before .before .before .before .before .before .before .before .before .before .before .bias .ensures .0)) (c .before .before .before .before .before .before .before .before .before .before .before .before .before .before .before .before .square-of .ensures))) (c .before .before .before .before .before .before .before .before .before .before .before .before .before .before .before .before .before .before .before .before .before .before .before .before .pre .0 .last) (found-of (c .before .before .before .before .before .before .before .before .before .before .before .before .before .before .before .before .before .before .before .before .before .before .before .before .args .plan) _ _ _ _ _ _ (c .before .before .before .before .before .before .before .before .before .before .before .before .before .before .step-back .result) (c .before .before .before .before .before .before .before .before .before .before .before .before .before .before .step-back .ensures _ (reads-here (c .before .before .before .before .before .before .before .before .before .before .before .before .before .before .before .before .before .before .before .before .before .before .before .before .pre .0) (c .before .before .before .before .before .before .before .before .before .before .before .before .before .before .before .before .before .before .before .before .before .label-on .ensures))) (c .before .before .before .before .before .before .before .before .before .before .before .before .found .given .1) .0) (found-of (c .before .before .before .before .before .before .before .before .before .before .before .before .before .before .before .before .before .before .before .before .before .before .before .before .args .plan) _ _ _ _ _ _ (c .before .before .before .before .before .before .before .before .before .before .before .before .before .before .step-back .result) (c .before .before .before .before .before .before .before .before .before .before .before .before .before .before .step-back .ensures _ (reads-here (c .before .before .before .before .before .before .before .before .before .before .before .before .before .before .before .before .before .before .before .before .before .before .before .before .pre .0) (c .before .before .before .before .before .before .before .before .before .before .before .before .before .before .before .before .before .before .before .before .before .label-on .ensures))) (c .before .before .before .before .before .before .before .before .before .before .before .before .found .given .1) .1) (count-of (c .before .before .before .before .before .before .before .before .before .before .before .before .before .before .before .before .before .before .before .before .before .before .before .before .args .plan) _ (c .before .before .before .before .before .before .before .before .before .before .edge-in .result) (edge-got (c .before .before .before .before .before .before .before .before .before .before .before .before .before .before .before .before .before .before .before .before .before .before .before .before .args .plan) _ _ (c .before .before .before .before .before .before .before .before .before .before .before .before .before .before .before .before .before .before .before .before .before .before .before .before .pre .1) (omega (arith, (found-of (c .before .before .before .before .before .before .before .before .before .before .before .before .before .before .before .before .before .before .before .before .before .before .before .before .args .plan) _ _ _ _ _ _ (c .before .before .before .before .before .before .before .before .before .before .before .before .before .before .step-back .result) (c .before .before .before .before .before .before .before .before .before .before .before .before .before .before .step-back .ensures _ (reads-here (c .before .before .before .before .before .before .before .before .before .before .before .before .before .before .before .before .before .before .before .before .before .before .before .before .pre .0) (c .before .before .before .before .before .before .before .before .before .before .before .before .before .before .before .before .before .before .before .before .before .label-on .ensures))) (c .before .before .before .before .before .before .before .before .before .before .before .before .found .given .1)) .0 .known, c .before .before .before .before .before .before .before .before .before .before .before .before .before .before .before .before .before .before .before .before .before .before .before .before .pre .0 .task .ready .plan .few-edges)) (c .before .before .before .before .before .before .before .before .before .before .edge-in .ensures)) _ _ _ _ (c .before .before .before .before .before .before .before .before .before .before .before .before .before .before .before .before .before .before .before .before .before .label-on .ensures) (c .before .before .before .before .before .before .before .before .before .count-before .ensures .0)) (ap (λ x. x .from) (edge-got (c .before .before .before .before .before .before .before .before .before .before .before .before .before .before .before .before .before .before .before .before .before .before .before .before .args .plan) _ _ (c .before .before .before .before .before .before .before .before .before .before .before .before .before .before .before .before .before .before .before .before .before .before .before .before .pre .1) (omega (arith, (found-of (c .before .before .before .before .before .before .before .before .before .before .before .before .before .before .before .before .before .before .before .before .before .before .before .before .args .plan) _ _ _ _ _ _ (c .before .before .before .before .before .before .before .before .before .before .before .before .before .before .step-back .result) (c .before .before .before .before .before .before .before .before .before .before .before .before .before .before .step-back .ensures _ (reads-here (c .before .before .before .before .before .before .before .before .before .before .before .before .before .before .before .before .before .before .before .before .before .before .before .before .pre .0) (c .before .before .before .before .before .before .before .before .before .before .before .before .before .before .before .before .before .before .before .before .before .label-on .ensures))) (c .before .before .before .before .before .before .before .before .before .before .before .before .found .given .1)) .0 .known, c .before .before .before .before .before .before .before .before .before .before .before .before .before .before .before .before .before .before .before .before .before .before .before .before .pre .0 .task .ready .plan .few-edges)) (c .before .before .before .before .before .before .before .before .before .before .edge-in .ensures))) (joins-of (c .before .before .before .before .before .before .before .before .before .before .before .before .before .before .before .before .before .before .before .before .before .before .before .before .args .plan) _ _ (edge-got (c .before .before .before .before .before .before .before .before .before .before .before .before .before .before .before .before .before .before .before .before .before .before .before .before .args .plan) _ _ (c .before .before .before .before .before .before .before .before .before .before .before .before .before .before .before .before .before .before .before .before .before .before .before .before .pre .1) (omega (arith, (found-of (c .before .before .before .before .before .before .before .before .before .before .before .before .before .before .before .before .before .before .before .before .before .before .before .before .args .plan) _ _ _ _ _ _ (c .before .before .before .before .before .before .before .before .before .before .before .before .before .before .step-back .result) (c .before .before .before .before .before .before .before .before .before .before .before .before .before .before .step-back .ensures _ (reads-here (c .before .before .before .before .before .before .before .before .before .before .before .before .before .before .before .before .before .before .before .before .before .before .before .before .pre .0) (c .before .before .before .before .before .before .before .before .before .before .before .before .before .before .before .before .before .before .before .before .before .label-on .ensures))) (c .before .before .before .before .before .before .before .before .before .before .before .before .found .given .1)) .0 .known, c .before .before .before .before .before .before .before .before .before .before .before .before .before .before .before .before .before .before .before .before .before .before .before .before .pre .0 .task .ready .plan .few-edges)) (c .before .before .before .before .before .before .before .before .before .before .edge-in .ensures)) (c .before .before .before .before .before .before .before .joins-run .ensures) (c .before .before .before .before .before .before .if1 .left)) (five-is _ _ _ (c .before .before .before .before .before .before .before .before .before .before .before .before .before .before .before .before .before .before .before .before .before .before .before .before .args .plan .lo) _ _ _ (c .before .before .before .before .before .struct-told .given .0 .1) (c .before .before .before .before .run-of .ensures)) (c .before .before .put-run .ensures)
 
 pub step-spec : {M : Type 1} → statement M
 step-spec =
@@ -111,6 +111,6 @@ step-spec =
     add-run-of
     run-of-requires
     put-run-requires
-    add-t22
+    add-t23
     same-length
     returns-3)

@@ -7,25 +7,25 @@ use Rattle.curve_test.proofs.direct.first_least.Statement.{statement}
 use Rattle.curve_test.proofs.direct.first_least.Tie as tie
 
 abbrev Inv-loop : tie.InvT-loop
-Inv-loop d at number gap j levels best₀ found₀ i₀ best found i = i ≤ levels
+Inv-loop d a number gap j levels best₀ found₀ i₀ best found i = i ≤ levels
 
 abbrev μ-loop : tie.MeasureT-loop
-μ-loop d at number gap j levels best₀ found₀ i₀ best found i = levels - i
+μ-loop d a number gap j levels best₀ found₀ i₀ best found i = levels - i
 
-add-best : tie.Need-add-best Inv-loop μ-loop
-add-best c = search needs
+add-t11 : tie.Need-add-t11 Inv-loop μ-loop
+add-t11 c = search needs
 
 loop-holds : tie.Need-loop-holds Inv-loop μ-loop
 loop-holds c = omega arith
 
-wrapping-add-usize-requires : tie.Need-wrapping-add-usize-requires Inv-loop μ-loop
-wrapping-add-usize-requires c κs = search needs
-
-get-requires : tie.Need-get-requires Inv-loop μ-loop
-get-requires c κs = search needs
+at-requires : tie.Need-at-requires Inv-loop μ-loop
+at-requires c κs = search needs
 
 permits-requires : tie.Need-permits-requires Inv-loop μ-loop
 permits-requires c κs = search needs
+
+less-requires : tie.Need-less-requires Inv-loop μ-loop
+less-requires c κs = search needs
 
 add-i : tie.Need-add-i Inv-loop μ-loop
 add-i c = omega arith
@@ -45,11 +45,11 @@ first-least-spec =
     (tie.spec
     Inv-loop
     μ-loop
-    add-best
+    add-t11
     loop-holds
-    wrapping-add-usize-requires
-    get-requires
+    at-requires
     permits-requires
+    less-requires
     add-i
     loop-less
     loop-again

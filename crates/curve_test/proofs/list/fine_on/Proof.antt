@@ -5,13 +5,13 @@ use mathlib.Core.Path.{_≡_}
 use mathlib.Core.Logic.{⊎-elim}
 use Prim.Native.Nat.{ℕ, _+_, _-_, _≤_, _<_}
 use Rattle.integers.specs.Rep.{le-or-lt}
-use Rattle.quadratic.specs.Quad.{Fine}
+use Rattle.quadratic.specs.Quad.{quad, Fine}
 use borrow.Author.Needs.{needs}
 use Rattle.curve_test.proofs.list.fine_on.Statement.{statement}
 use Rattle.curve_test.proofs.list.fine_on.Tie as tie
 
 abbrev Inv-loop : tie.InvT-loop
-Inv-loop q x e base j₀ j = (k : ℕ) → x ≤ k → k < j → Fine 1048576 9007199254740992 q (base + k)
+Inv-loop q x e base j₀ j = (k : ℕ) → x ≤ k → k < j → Fine 1048573 9007199254740992 (quad q) (base + k)
 
 abbrev μ-loop : tie.MeasureT-loop
 μ-loop q x e base j₀ j = e + 1 - j

@@ -1,5 +1,6 @@
 -- `curve_test::run::constant`: once it is tested. Assumes nothing.
 use Rattle.curve_test.specs.Valid.{passed}
+use native.Mathlib.Omega.{arith}
 use borrow.Author.Needs.{needs}
 use Rattle.curve_test.proofs.run.constant.Statement.{statement}
 use Rattle.curve_test.proofs.run.constant.Tie as tie
@@ -14,7 +15,10 @@ returns : tie.Need-returns
 returns c = search needs
 
 constant-requires : tie.Need-constant-requires
-constant-requires c κs = c .before .before .room .ensures (passed _ (c .before .if1 .left))
+constant-requires c κs = search needs
+
+constant-requires-2 : tie.Need-constant-requires-2
+constant-requires-2 c κs = (c .before .before .before .room .ensures (passed _ (c .before .before .if1 .left)), omega (arith, c .before .constant .ensures))
 
 same-length-2 : tie.Need-same-length-2
 same-length-2 c = search needs
@@ -25,4 +29,11 @@ returns-2 c = search needs
 pub constant-spec : {M : Type 1} → statement M
 constant-spec =
     tie.close
-    (tie.spec room-requires same-length returns constant-requires same-length-2 returns-2)
+    (tie.spec
+    room-requires
+    same-length
+    returns
+    constant-requires
+    constant-requires-2
+    same-length-2
+    returns-2)

@@ -1,7 +1,6 @@
 -- `curve_test::run::on_two`: once it is tested. Assumes nothing.
-use Rattle.curve_test.specs.Valid.{passed, within, with-penalty, sound}
+use Rattle.curve_test.specs.Valid.{passed, within, sound}
 use native.Mathlib.Omega.{arith}
-use Prim.Native.Nat.{_%_}
 use Rattle.curve.specs.Curve.{curve-reads, curve-sized, curve-raised, curve-yields}
 use borrow.Author.Needs.{needs}
 use Rattle.curve_test.proofs.run.on_two.Statement.{statement}
@@ -52,8 +51,14 @@ same-length-5 c = search needs
 returns-5 : tie.Need-returns-5
 returns-5 c = search needs
 
+penalty-requires : tie.Need-penalty-requires
+penalty-requires c κs = search needs
+
+changes-requires : tie.Need-changes-requires
+changes-requires c κs = search needs
+
 least-of-two-requires : tie.Need-least-of-two-requires
-least-of-two-requires c κs = let v = c .before .before .before .before .before .before .before .before .before .before .before .before .valid .ensures (passed _ (c .before .before .before .before .before .before .before .before .before .before .before .if1 .left)) in let w = c .before .before .before .before .before .before .before .before .before .valid2 .ensures (passed _ (c .before .before .before .before .before .before .before .before .if2 .left)) in ((curve-reads (c .before .before .before .before .before .before .before .before .before .before .before .before .before .before .before .args .dst) (v .list) (c .before .before .before .before .before .before .before .apart .ensures (passed _ (c .before .before .before .before .before .before .if3 .left))), (curve-reads (c .before .before .before .before .before .before .before .before .before .before .before .before .before .before .before .args .dst) (w .list) (c .before .before .before .before .before .apart2 .ensures (passed _ (c .before .before .before .before .if4 .left))), c .before .before .room .ensures (passed _ (c .before .if5 .left)))), ((omega arith, v .limits .high), (curve-sized (within v) (v .list), (curve-raised (c .before .before .before .before .before .before .before .before .before .before .before .before .before .before .before .args .pen % 1048576) (with-penalty v (c .before .before .before .before .before .before .before .before .before .before .before .before .before .before .before .args .pen % 1048576) (omega arith)) (w .list), curve-yields (c .before .before .before .before .before .before .before .before .before .before .before .before .before .before .before .args .pen % 1048576) (omega arith) (v .limits) (sound v) (w .list)))))
+least-of-two-requires c κs = let v = c .before .before .before .before .before .before .before .before .before .before .before .before .before .before .valid .ensures (passed _ (c .before .before .before .before .before .before .before .before .before .before .before .before .before .if1 .left)) in let w = c .before .before .before .before .before .before .before .before .before .before .before .valid2 .ensures (passed _ (c .before .before .before .before .before .before .before .before .before .before .if2 .left)) in ((curve-reads (c .before .before .before .before .before .before .before .before .before .before .before .before .before .before .before .before .before .args .dst) (v .list) (c .before .before .before .before .before .before .before .before .before .apart .ensures (passed _ (c .before .before .before .before .before .before .before .before .if3 .left))), (curve-reads (c .before .before .before .before .before .before .before .before .before .before .before .before .before .before .before .before .before .args .dst) (w .list) (c .before .before .before .before .before .before .before .apart2 .ensures (passed _ (c .before .before .before .before .before .before .if4 .left))), c .before .before .before .before .room .ensures (passed _ (c .before .before .before .if5 .left)))), (((omega (arith, c .before .before .penalty .ensures), omega (arith, c .before .changes .ensures)), v .limits .high), (curve-sized (within v) (v .list), (curve-raised (c .before .before .penalty .result) (c .before .changes .result) (omega (arith, c .before .changes .ensures)) (omega (arith, c .before .before .penalty .ensures)) (v .limits) (w .list), curve-yields (c .before .before .penalty .result) (c .before .changes .result) (omega (arith, c .before .changes .ensures)) (omega (arith, c .before .before .penalty .ensures)) (v .limits) (w .list) (sound v)))))
 
 same-length-6 : tie.Need-same-length-6
 same-length-6 c = search needs
@@ -80,6 +85,8 @@ on-two-spec =
     room-requires
     same-length-5
     returns-5
+    penalty-requires
+    changes-requires
     least-of-two-requires
     same-length-6
     returns-6)
