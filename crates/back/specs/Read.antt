@@ -41,7 +41,7 @@ pub record Readable (n cur : ℕ) (g : Shape) (ws : List ℕ) : Type 0 where
   pub bounds : Limits most 18014398509481984 (g .base) (g .levels)
   pub list : (k s : ℕ) → k < n → s < g .states → Sound most 18014398509481984 (g .base) (g .levels) ws (listAt cur (g .states) (g .levels) k s)
 
--- and they cost H
+-- and their values are H
 pub record Reads (n cur : ℕ) (g : Shape) (ws : List ℕ) (H : Table) : Type 0 where
   pub at : (k s j : ℕ) → k < n → s < g .states → j < g .levels → costs (g .base) (piece ws (listAt cur (g .states) (g .levels) k s) (g .levels)) j ≡ H k s j
 
@@ -53,7 +53,7 @@ endsBelow P H n = minBelow n (λ (s : ℕ). minBelow (width P) (λ (j : ℕ). en
 abbrev pub endOf : End → ℕ
 endOf r = lex (r .value) (r .changes)
 
--- the cheapest end in the states below n: lowest state, then lowest level
+-- the cheapest end in the states below n: fewest changes, then lowest state, then lowest level
 pub record EndTo (P : Plan) (H : Table) (n : ℕ) (r : End) : Type 0 where
   pub is : endOf r ≡ endsBelow P H n
   pub state : endOf r < noCost → r .state < n

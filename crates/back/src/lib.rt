@@ -49,8 +49,8 @@ fn better_end(ws: &[u64], plan: Plan, cur: usize, g: Shape, s: usize, best: End)
     }
 }
 
-// The cheapest end in the end set: fewest changes, then lowest state, then lowest level. None, state 0 and level 0 where there is none. No label is open at the end, so the
-// lists of count 0 are all that is read.
+// The cheapest end in the end set: fewest changes, then lowest state, then lowest level. None, state 0 and level 0 where there is none. No label is
+// open at the end, so the lists of count 0 are all that is read.
 pub fn best_end(ws: &[u64], plan: Plan, cur: usize, g: Shape) -> End
     requires { ⌜ Readable 1 cur g (now ws) × ShapeOf plan g ⌝ }
     ensures { λ r. ⌜ (r .changes ≤ few) × ((H : Table) → Reads 1 cur g (now (ws .entry)) H → EndTo plan H (plan .states) r) ⌝ }

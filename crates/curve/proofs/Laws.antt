@@ -2,17 +2,17 @@
 use mathlib.Core.Path.{_≡_, refl, sym, ap, _∙_, subst}
 use mathlib.Core.Logic.{_⊎_, inl, inr, ⊎-elim}
 use mathlib.Core.List.{List, _++_}
-use Prim.Native.Nat.{ℕ, zero, suc, _+_, _*_, _-_, _/_, _%_, _≤_, _<_}
+use Prim.Native.Nat.{ℕ, zero, suc, _+_, _*_, _-_, _≤_, _<_}
 use native.Mathlib.Omega.{arith}
 use lib.ListN.{length, getD, set, take, drop, length-set, length-drop, List·getD-append}
 use lib.Seq.{paste, getD-set-same, getD-set-other, getD-take, getD-drop, getD-append-add, length-take-le, length-paste, length-paste-head, ext-getD}
 use Rattle.integers.specs.Rep.{le-or-lt}
-use mathlib.Core.Bool.{Bool, true, false, cond}
-use lib.Dec.{eqb, leb, ltb}
+use mathlib.Core.Bool.{Bool, true, false}
+use lib.Dec.{eqb, leb}
 use borrow.Author.Tests.{le-leb, lt-leb}
 use Rattle.quadratic.specs.Fine.{quad-eq, late-most}
 use Rattle.quadratic.specs.declared.Packed.{Packed}
-use Rattle.quadratic.specs.Quad.{Quad, quad, Small, Sized, Fine, Stays, Under, Over, up, down, value, pick, late, better, raised, none, flat, absent, moved, mirrored}
+use Rattle.quadratic.specs.Quad.{Quad, quad, Small, Sized, Fine, Stays, Under, up, down, value, pick, late, better, raised, none, flat, absent, moved, mirrored}
 use Rattle.curve.specs.Pieces.{endOf, startOf, quadAt, piece, Formed, Built, Is, Kept, Same, Stored, Appended, Emits, Made, Held, Lent, shiftOf, mirrorOf, Turnable, Yields}
 use Rattle.curve.specs.Lists.{last-or, start-next, start-zero, count-le, end-lt, piece-at, same-quad, built-put, built-longer, kept-same, kept-refl, kept-then, kept-wider, kept-lent, same-end, same-start, opened, count-same, count-most, built-most, emits-none, emits-append}
 

@@ -5,7 +5,7 @@ use mathlib.Core.List.{List}
 use Prim.Native.Nat.{ℕ, zero, suc, _+_, _*_, _-_, _≤_, _<_}
 use native.Mathlib.Omega.{arith}
 use Rattle.integers.specs.Rep.{le-or-lt}
-use Rattle.integers.specs.Pairs.{unit, lex}
+use Rattle.integers.specs.Pairs.{lex}
 use Rattle.quadratic.specs.Fine.{value-most, fine-sized, late-is}
 use Rattle.quadratic.specs.Quad.{Quad, up, down, cost, value, flat, noValue, late, Small, Sized, Lowest, Stays, Under, Over, Fine}
 use Rattle.curve.specs.declared.Low.{Low}

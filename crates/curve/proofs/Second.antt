@@ -6,7 +6,6 @@ use Prim.Native.Nat.{ℕ, _+_, _*_, _-_, _≤_, _<_}
 use native.Mathlib.Omega.{arith}
 use borrow.Author.Tests.{eq-eqb, ne-eqb}
 use Rattle.integers.specs.Rep.{le-or-lt}
-use Rattle.integers.specs.Pairs.{lex}
 use Rattle.quadratic.specs.Quad.{Quad, up, down, cost, value, flat, none, noValue, Lowest, AtMost, Less}
 use Rattle.quadratic.proofs.Laws.{rises-after, falls-before}
 use Rattle.curve.specs.declared.Rank.{Rank}

@@ -48,7 +48,7 @@ secondOf r = lex (r .second) (r .secondchanges)
 abbrev pub levelled : ℕ → Quad
 levelled x = flat (x / unit) (x % unit)
 
--- what F costs at each level
+-- the value of F at each level, cost and changes in one number
 abbrev pub costs : ℕ → (ℕ → Quad) → ℕ → ℕ
 costs base F j = value (F j) (base + j)
 

@@ -10,7 +10,6 @@ use lib.Dec.{leb, eqb}
 use lib.ListN.{length}
 use borrow.Author.Tests.{eqb-true, eqb-false}
 use Rattle.integers.specs.Rep.{le-or-lt}
-use Rattle.integers.specs.Pairs.{lex}
 use Rattle.quadratic.specs.Quad.{noValue, flat, pick}
 use Rattle.quadratic.specs.Fine.{pickN}
 use Rattle.curve.specs.declared.Two.{Two}
@@ -94,7 +93,7 @@ module _ {ws : List ℕ} {base L f : ℕ} {r : Two} (p : 0 < L) (t : TwoLeast (c
   second-most : leastOf r ≤ secondOf r
   second-most = ⊎-elim (λ e. omega (arith, least-most)) (λ b. omega (arith, b .is, curve-two c t .least (b .at) (b .inside))) (curve-two c t .second)
 
-  -- without it nothing more is seen, where F, the least so far, is no dearer at that level than the least with pen
+  -- without it nothing more is seen, where F, the least so far, comes at that level no later than the least with pen and one change
   pub least-seen : (pen : ℕ) (F : ℕ → ℕ) → F (r .level) ≤ noValue → F (r .level) ≤ leastOf r + pen → (j : ℕ) → j < L → min (F j) (raise (leastOf r) pen) ≡ min (F j) (raise (edgeMin L Any G j) pen)
   least-seen pen F m h j k = subst (λ (x : ℕ). min (F j) (raise (leastOf r) pen) ≡ min (F j) (raise x pen)) (any-is p (curve-most l c) (curve-two c t) j k) (go (eqb j (r .level)) refl)
     where

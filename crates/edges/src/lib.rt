@@ -26,8 +26,8 @@ ghost use Rattle.edges.specs.Back.{LeastOf, pickLow};
 ghost use Rattle.edges.specs.Edge.{most, Into, Joint, Sound, Ready, Moved, StandsFor, Joined, Taken, WithLoss};
 
 // work: at each level the least of f at the other levels. That is the least of all, but at a level that has it: there it is the second least. It
-// is left out where it cannot be seen, the least so far being no dearer there than the least with pen. So it is where a stay from f, no dearer
-// than this edge, was taken before; and one piece is quicker than three.
+// is left out where it cannot be seen: where the least so far comes there no later than the least with pen and one change. So it is where a stay
+// from f, no dearer than this edge, was taken before; and one piece is quicker than three.
 fn any_into(
     ws: &mut [u64],
     acc: usize,

@@ -11,8 +11,8 @@ use Rattle.model.specs.Ends.{lossMost, tableAt}
 use Rattle.curve.specs.Curve.{Curve}
 use Rattle.layer.specs.declared.Shape.{Shape}
 
--- the most that a reading and the boundary before it cost; and the most that they add to what is counted, the weight of a reading (at most 255, ticket 10) and a
--- change
+-- the most that a reading and the boundary before it cost; and the most that they add to what is counted, a change and the reading, with room for
+-- its weight (ticket 10, at most 255)
 abbrev pub readingMost : ℕ
 readingMost = lossMost + penaltyMost
 

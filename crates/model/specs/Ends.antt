@@ -54,7 +54,7 @@ far z m lo hi hz hl hh p q = go (abs-is (z -ℤ m)) (signed-16 z hz) (signed-16 
     go (inl x) a b c e f g = omega arith
     go (inr x) a b c e f g = omega arith
 
--- times a weight of at most 255, as ticket 10 of the change requests (02) has it
+-- the most that a reading may cost, with room for the weights of ticket 10, at most 255
 abbrev pub lossMost : ℕ
 lossMost = 255 * (65535 * 65535)
 

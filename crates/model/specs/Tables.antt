@@ -1,8 +1,8 @@
 -- The search in numbers alone. A code that holds, for each reading, the values of `tableAt` has here all that a search or a point asks, with no
 -- layer of the model left in it:
 --   before it looks     `ready-search` or `ready-point`, once no number of `Refusals` refuses
---   a layer             `tableAt`: `firstTable`, then `nextTable` of the one before; edge by edge `edge-skip`, `edge-take` (`Held`), for each
---                       kind `edgeMin` (`Index`); every number is low or none (`table-cases`)
+--   a layer             `tableAt`: `firstTable`, then `nextTable` of the one before, for each kind of edge `edgeMin` (`Index`); every number is
+--                       low or none (`table-cases`)
 --   the labels          `labelOn-at`, `labelOn-none` (`Labels`), then by cases which edges lead to a count, and from which count: `leads-free`,
 --                       `leads-closing`, `leads-inside`, `from-free`, `from-closing`, `from-inside`
 --   the result          with `table-held` of the last layer: `none-by`, `found-by`, `point-by` (`Ends`)

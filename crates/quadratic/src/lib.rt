@@ -27,7 +27,7 @@ pub struct Packed {
     pub c: u64,
 }
 
-// The two parts of a value, which is rise less fall.
+// The two parts of a cost, which is rise less fall.
 fn rise(a: u64, c: u64, v: u64) -> u64
     requires { ⌜ (a ≤ 1048576) × ((c < 2305843009213693952) × (v < 262144)) ⌝ }
     ensures { λ r. ⌜ (r ≡ a * (v * v) + c) × (r ≤ 2377900603251621888) ⌝ }
@@ -42,7 +42,7 @@ fn fall(z: u64, v: u64) -> u64
     2 * (z * v)
 }
 
-// The value at v.
+// The cost at v.
 pub fn eval(q: Packed, v: u64) -> u64
     requires { ⌜ Small (quad q) × ((v < 262144) × (down (quad q) v ≤ up (quad q) v)) ⌝ }
     ensures { λ r. ⌜ (r ≡ cost (quad q) v) × (r ≤ 2377900603251621888) ⌝ }

@@ -19,7 +19,7 @@ use Rattle.model.specs.Refusals.{pointNumber}
 use Rattle.model.specs.Checked.{Checked, accepted-point, point-not-16}
 use Rattle.integers.specs.Pairs.{unit}
 use Rattle.quadratic.specs.Quad.{none}
-use Rattle.model.specs.Index.{noCost, reported, reported-some, reported-none}
+use Rattle.model.specs.Index.{reported, reported-some, reported-none}
 use Rattle.model.specs.Held.{Table}
 use Rattle.model.specs.Labels.{usedAt}
 use Rattle.model.specs.Ends.{tableAt, pointAt, point-by}

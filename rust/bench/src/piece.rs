@@ -15,8 +15,8 @@ pub struct Piece {
     pub c: i64,
 }
 
-/// One change, above all that a can be.
-const CHANGE: u32 = 32;
+/// The bits of `both` that a has; the number of changes is above them.
+const CHANGE_BITS: u32 = 32;
 
 /// A word without an index check, since the proved code runs without one too. A debug build checks it.
 #[inline(always)]
@@ -60,7 +60,7 @@ pub fn put_piece(ws: &mut [u64], at: usize, p: Piece) {
 pub fn constant(end: i64, cost: Cost) -> Piece {
     Piece {
         end,
-        both: cost.changes << CHANGE,
+        both: cost.changes << CHANGE_BITS,
         z: 0,
         c: cost.value,
     }
@@ -133,7 +133,7 @@ impl Piece {
     /// The number of changes, 0 where it is none.
     #[inline(always)]
     pub fn k(self) -> i64 {
-        self.both >> CHANGE
+        self.both >> CHANGE_BITS
     }
 
     #[inline(always)]
@@ -172,7 +172,7 @@ impl Piece {
             self
         } else {
             Piece {
-                both: self.both + (by.changes << CHANGE),
+                both: self.both + (by.changes << CHANGE_BITS),
                 c: self.c + by.value,
                 ..self
             }

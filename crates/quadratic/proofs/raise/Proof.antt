@@ -1,7 +1,7 @@
 use mathlib.Core.Path.{refl}
 use native.Mathlib.Omega.{arith}
 use borrow.Author.Tests.{eq-eqb, ne-eqb}
-use Rattle.quadratic.specs.Quad.{quad, raised}
+use Rattle.quadratic.specs.Quad.{quad}
 use Rattle.quadratic.specs.Fine.{quad-eq}
 use borrow.Author.Needs.{needs}
 use Rattle.quadratic.proofs.raise.Statement.{statement}
