@@ -106,11 +106,15 @@ struct Stretch {
 }
 
 // The better of p and q at the level a, p where they are equal, and how far to y it stays so. Of equal costs the one with fewer changes is the better: the
-// other has to be cheaper by one.
+// other has to be cheaper by one. Where p is none it is q, and none is frequent: each least so far begins with it.
 fn next_stretch(p: Packed, q: Packed, a: u64, y: u64, base: u64) -> Stretch
     requires { ⌜ (Sized (quad p) × Sized (quad q)) × ((a ≤ y) × (base + y < 262144)) ⌝ }
+    requires { ⌜ ((j : ℕ) → a ≤ j → j ≤ y → Yields (base + j) (quad p) (quad q)) ⌝ }
     ensures { λ r. ⌜ ((a ≤ r .end) × (r .end ≤ y)) × ((j : ℕ) → a ≤ j → j ≤ r .end → quad (r .winner) ≡ better (base + j) (quad p) (quad q)) ⌝ }
 {
+    if p.c == quadratic::NONE {
+        return Stretch { winner: q, end: y };
+    }
     let more = quadratic::more_changes(p.w / quadratic::CHANGE, q.w / quadratic::CHANGE);
     let p1 = Packed {
         w: p.w,
@@ -130,54 +134,6 @@ fn next_stretch(p: Packed, q: Packed, a: u64, y: u64, base: u64) -> Stretch
     Stretch { winner: q, end: t }
 }
 
-// The better of p and q at the levels from x to y, p where they are equal. One `append` serves whichever is better: one for each would be
-// slower.
-fn least_on(
-    ws: &mut [u64],
-    dst: usize,
-    n: usize,
-    p: Packed,
-    q: Packed,
-    x: u64,
-    y: u64,
-    base: u64,
-) -> usize
-    requires { ⌜ (Sized (quad p) × Sized (quad q)) × (base + y < 262144) ⌝ }
-    requires { ⌜ ((n ≤ x) × (x ≤ y)) × (dst + 4 * (y + 1) ≤ length (now ws)) ⌝ }
-    ensures { λ r. ⌜ Emits (λ (j : ℕ). better (base + j) (quad p) (quad q)) (now (ws .entry)) (now (ws .exit)) dst n x (y + 1) r ⌝ }
-{
-    let mut a = x;
-    let mut k = n;
-    while a <= y {
-        let r = next_stretch(p, q, a, y, base);
-        k = append(ws, dst, k, r.end, r.winner);
-        a = r.end + 1;
-    }
-    k
-}
-
-// The better of p and q at the levels from x to y. Where p is none it is q, and none is frequent: each least so far begins with it.
-fn least_part(
-    ws: &mut [u64],
-    dst: usize,
-    n: usize,
-    p: Packed,
-    q: Packed,
-    x: u64,
-    y: u64,
-    base: u64,
-) -> usize
-    requires { ⌜ (Sized (quad p) × Sized (quad q)) × (base + y < 262144) ⌝ }
-    requires { ⌜ ((n ≤ x) × (x ≤ y)) × (dst + 4 * (y + 1) ≤ length (now ws)) ⌝ }
-    requires { ⌜ ((j : ℕ) → x ≤ j → j ≤ y → Yields (base + j) (quad p) (quad q)) ⌝ }
-    ensures { λ r. ⌜ Emits (λ (j : ℕ). better (base + j) (quad p) (quad q)) (now (ws .entry)) (now (ws .exit)) dst n x (y + 1) r ⌝ }
-{
-    if p.c == quadratic::NONE {
-        return append(ws, dst, n, y, q);
-    }
-    least_on(ws, dst, n, p, q, x, y, base)
-}
-
 // The less of two numbers.
 fn lesser(e: u64, h: u64) -> u64
     ensures { λ r. ⌜ ((r ≤ e) × (r ≤ h)) × ((r ≡ e) ⊎ (r ≡ h)) ⌝ }
@@ -193,7 +149,8 @@ fn next(i: usize, e: u64, y: u64) -> usize
     if e == y { i + 1 } else { i }
 }
 
-// dst: at each level the less of f's and of g's with pen and ch changes added.
+// dst: at each level the less of f's and of g's with pen and ch changes added. Each turn is a stretch, and not all of the levels that two pieces share: nearly
+// all stretches are as long as that, and a loop over those of two pieces would take longer to begin than its one turn.
 pub fn least_of_two(
     ws: &mut [u64],
     f: usize,
@@ -224,10 +181,11 @@ pub fn least_of_two(
         let l = load(ws, to);
         let q = quadratic::raise(l, pen, ch);
         let y = lesser(e, h);
-        n = least_part(ws, dst, n, p, q, x, y, base);
-        i = next(i, e, y);
-        k = next(k, h, y);
-        x = y + 1;
+        let r = next_stretch(p, q, x, y, base);
+        n = append(ws, dst, n, r.end, r.winner);
+        i = next(i, e, r.end);
+        k = next(k, h, r.end);
+        x = r.end + 1;
     }
 }
 
@@ -351,12 +309,15 @@ struct Run {
     pub changes: u64,
 }
 
-// The first level of [a, v] at which p costs less than best. It is so at v, and p falls up to there.
+// The first level of [a, v] at which p costs less than best. It is so at v, and p falls up to there. Many pieces have one level: nothing is looked for there.
 fn first_below(p: Packed, best: u64, a: u64, v: u64, base: u64) -> u64
     requires { ⌜ (Small (quad p) × (best ≤ 1152921504606846978)) × ((a ≤ v) × (base + v < 262144)) ⌝ }
     requires { ⌜ Over (flat best 0) (quad p) (base + v) ⌝ }
     ensures { λ r. ⌜ Drops (quad p) best a v base r ⌝ }
 {
+    if a == v {
+        return v;
+    }
     let w = Packed {
         w: 0,
         z: 0,

@@ -1,10 +1,10 @@
--- `curve::least_of_two`: each turn is an overlap of two pieces. Assumes nothing.
+-- `curve::least_of_two`: each turn is a stretch of the overlap of two pieces. Assumes nothing.
 use mathlib.Core.Logic.{_⊎_, ⊎-elim}
 use mathlib.Core.Path.{subst, _≡_, sym, _∙_}
 use Prim.Native.Nat.{ℕ, _+_, _-_, _≤_, _<_}
 use native.Mathlib.Omega.{arith}
 use Rattle.quadratic.specs.Quad.{Quad, quad, Sized, better, raised}
-use Rattle.curve.specs.Lists.{emits-none, emits-then, emits-as, made}
+use Rattle.curve.specs.Lists.{emits-none, emits-append, made}
 use Rattle.curve.specs.Pieces.{endOf, Emits, piece}
 use Rattle.curve.proofs.Laws.{yields-same, Seen, seen, raised-same, better-same, small-raised, At, at-start}
 use Rattle.curve.proofs.least_of_two.Statement.{statement}
@@ -15,9 +15,6 @@ Inv-loop ws₀ f g pen ch dst levels base i₀ k₀ n₀ x₀ ws i k n x = ((x �
 
 abbrev μ-loop : tie.MeasureT-loop
 μ-loop ws₀ f g pen ch dst levels base i₀ k₀ n₀ x₀ ws i k n x = levels - x
-
-loop-holds : tie.Need-loop-holds Inv-loop μ-loop
-loop-holds c = let s = c .before in ((omega arith, (at-start (s .pre .0 .0 .formed), at-start (s .pre .0 .1 .0 .formed))), emits-none _ _ _ _ _)
 
 -- the two pieces that are read, by the list's state at entry
 sf : (c : tie.In-loop Inv-loop μ-loop) → Seen (c .before .before .before .args .ws .now) (c .before .loop .ws) (c .before .before .before .args .f) (c .before .before .before .args .levels) (c .before .loop .i) (c .before .loop .x)
@@ -52,6 +49,9 @@ ql c =
 qr : (c : tie.After-raise Inv-loop μ-loop) → Sized (quad (c .raise .result))
 qr c = rw (c .raise .ensures) (ql (c .before))
 
+loop-holds : tie.Need-loop-holds Inv-loop μ-loop
+loop-holds c = let s = c .before in ((omega arith, (at-start (s .pre .0 .0 .formed), at-start (s .pre .0 .1 .0 .formed))), emits-none _ _ _ _ _)
+
 mul-at : tie.Need-mul-at Inv-loop μ-loop
 mul-at c = omega (arith, sf c .index, sf c .room, sg c .room)
 
@@ -65,7 +65,7 @@ add-to : tie.Need-add-to Inv-loop μ-loop
 add-to c = omega (arith, sg c .index, sf c .room, sg c .room)
 
 mul-e : tie.Need-mul-e Inv-loop μ-loop
-mul-e c = omega (arith, sf (c) .room)
+mul-e c = omega (arith, sf c .room)
 
 slice-read-e : tie.Need-slice-read-e Inv-loop μ-loop
 slice-read-e c = omega (arith, sf (c .before) .room)
@@ -88,46 +88,39 @@ raise-requires c κs = (small-raised (c .before .before .before .before .before 
 lesser-requires : tie.Need-lesser-requires Inv-loop μ-loop
 lesser-requires c κs = tt
 
-least-part-requires : tie.Need-least-part-requires Inv-loop μ-loop
-least-part-requires c κs =
-    let s = c .before .before .before .before .before .before .before .before .before .before .before .before in
-    let t = c .before .before .before .before .before .before .before .before .before in
-    let i = c .before .before .before .before .before .before .before .before .before .before .loop .inv in
-    let y = ys (c .before) in
-    let l = c .before .lesser in (
-      ((qp (c .before .before .before .before .before), qr (c .before .before)), y .1 .1),
-      (
-        ((i .1 .count (omega arith), y .0), omega (arith, y .1 .0, i .1 .kept .size, s .pre .0)),
-        λ j u v. yields-same _ (sf t .is j u (omega (arith, l .ensures .0)) ∙ sym (c .before .before .before .before .before .load .ensures))
-            (raised-same _ _ (sg t .is j u (omega (arith, l .ensures .0)) ∙ sym (c .before .before .before .load2 .ensures)) ∙ sym (c .before .before .raise .ensures))
-            (s .pre .1 .1 .1 .1 j (omega (arith, y .1 .0))),
-      ),
-    )
+next-stretch-requires : tie.Need-next-stretch-requires Inv-loop μ-loop
+next-stretch-requires c κs = let t = c .before .before .before .before .before .before .before .before in let y = ys (c) in let l = c .lesser .ensures .0 in (
+  ((qp (c .before .before .before .before), qr (c .before)), (y .0, y .1 .1)),
+  λ j u v. yields-same _ (sf t .is j u (omega (arith, l)) ∙ sym (c .before .before .before .before .load .ensures)) (raised-same _ _ (sg t .is j u (omega (arith, l)) ∙ sym (c .before .before .load2 .ensures)) ∙ sym (c .before .raise .ensures)) (c .before .before .before .before .before .before .before .before .before .before .before .pre .1 .1 .1 .1 j (omega (arith, y .1 .0))),
+)
+
+append-requires : tie.Need-append-requires Inv-loop μ-loop
+append-requires c κs = let i = c .before .before .before .before .before .before .before .before .before .before .before .loop .inv .1 in omega (arith, i .count (omega arith), i .kept .size, c .before .before .before .before .before .before .before .before .before .before .before .before .before .pre .0, c .before .before .before .before .before .before .before .before .before .before .loop-test)
 
 next-requires : tie.Need-next-requires Inv-loop μ-loop
-next-requires c κs = omega (arith, sf (c .before .before .before .before .before .before .before .before .before .before .before .before) .index, c .before .before .before .before .before .before .before .before .before .before .before .before .before .before .before .pre .1 .0)
+next-requires c κs = omega (arith, sf (c .before .before .before .before .before .before .before .before .before .before .before .before .before) .index, c .before .before .before .before .before .before .before .before .before .before .before .before .before .before .before .before .pre .1 .0)
 
 next-requires-2 : tie.Need-next-requires-2 Inv-loop μ-loop
-next-requires-2 c κs = omega (arith, sg (c .before .before .before .before .before .before .before .before .before .before .before .before .before) .index, c .before .before .before .before .before .before .before .before .before .before .before .before .before .before .before .before .pre .1 .0)
+next-requires-2 c κs = omega (arith, sg (c .before .before .before .before .before .before .before .before .before .before .before .before .before .before) .index, c .before .before .before .before .before .before .before .before .before .before .before .before .before .before .before .before .before .pre .1 .0)
 
 add-x : tie.Need-add-x Inv-loop μ-loop
-add-x c = omega (arith, ys (c .before .before .before .before .before .before) .1 .1)
+add-x c = omega (arith, ys (c .before .before .before .before .before .before .before .before) .1 .1, c .before .before .before .before .before .before .before .next-stretch .ensures .0)
 
 loop-less : tie.Need-loop-less Inv-loop μ-loop
-loop-less c = omega (arith, ys (c .before .before .before .before .before .before) .0, c .before .before .before .before .before .before .before .before .before .before .before .before .before .before .loop-test)
+loop-less c = omega (arith, c .before .before .before .before .before .before .before .next-stretch .ensures .0, c .before .before .before .before .before .before .before .before .before .before .before .before .before .before .before .before .loop-test)
 
 loop-again : tie.Need-loop-again Inv-loop μ-loop
-loop-again c = let s = c .before .before .before .before .before .before .before .before .before .before .before .before .before .before .before .before .before in let t = c .before .before .before .before .before .before .before .before .before .before .before .before .before .before in let y = ys (c .before .before .before .before .before .before) in let l = c .before .before .before .before .before .before .lesser in (
-  (omega (arith, y .1 .0), (sf t .step (l .result) (c .before .next .result) (y .0) (l .ensures .0 .0) (c .before .next .ensures), sg t .step (l .result) (c .next2 .result) (y .0) (l .ensures .0 .1) (c .next2 .ensures))),
-  emits-then (omega arith) (omega (arith, y .0)) (c .before .before .before .before .before .before .before .before .before .before .before .before .before .before .before .loop .inv .1)
-      (emits-as (λ j p q. sym (better-same _ (sf t .is j p (omega (arith, l .ensures .0)) ∙ sym (c .before .before .before .before .before .before .before .before .before .before .load .ensures)) (raised-same _ _ (sg t .is j p (omega (arith, l .ensures .0)) ∙ sym (c .before .before .before .before .before .before .before .before .load2 .ensures)) ∙ sym (c .before .before .before .before .before .before .before .raise .ensures)))) (c .before .before .before .before .least-part .ensures)),
+loop-again c = let t = c .before .before .before .before .before .before .before .before .before .before .before .before .before .before .before .before in let l = c .before .before .before .before .before .before .before .before .lesser .ensures .0 in let r = c .before .before .before .before .before .before .before .next-stretch .ensures in (
+  (omega (arith, ys (c .before .before .before .before .before .before .before .before) .1 .0, r .0), (sf t .step _ (c .before .before .next .result) (r .0 .0) (omega (arith, r .0 .1, l)) (c .before .before .next .ensures), sg t .step _ (c .before .next2 .result) (r .0 .0) (omega (arith, r .0 .1, l)) (c .before .next2 .ensures))),
+  emits-append (omega arith) (omega arith) (r .0 .0) (c .before .before .before .before .before .before .before .before .before .before .before .before .before .before .before .before .before .loop .inv .1) (c .before .before .before .before .before .append .ensures)
+      (λ j u v. r .1 j u v ∙ sym (better-same _ (sf t .is j u (omega (arith, r .0 .1, l)) ∙ sym (c .before .before .before .before .before .before .before .before .before .before .before .before .load .ensures)) (raised-same _ _ (sg t .is j u (omega (arith, r .0 .1, l)) ∙ sym (c .before .before .before .before .before .before .before .before .before .before .load2 .ensures)) ∙ sym (c .before .before .before .before .before .before .before .before .before .raise .ensures)))),
 )
 
 same-length : tie.Need-same-length Inv-loop μ-loop
 same-length c = c .before .loop .inv .1 .kept .size
 
 returns : tie.Need-returns Inv-loop μ-loop
-returns c = let s = c .before .before .before in let e : c .before .loop .x ≡ s .args .levels = omega arith in made (rw e at (c .before .loop .inv .1))
+returns c = let e : c .before .loop .x ≡ c .before .before .before .args .levels = omega arith in made (rw e at (c .before .loop .inv .1))
 
 pub least-of-two-spec : {M : Type 1} → statement M
 least-of-two-spec =
@@ -148,7 +141,8 @@ least-of-two-spec =
     load-requires-2
     raise-requires
     lesser-requires
-    least-part-requires
+    next-stretch-requires
+    append-requires
     next-requires
     next-requires-2
     add-x
