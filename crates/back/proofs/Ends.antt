@@ -13,13 +13,13 @@ use Rattle.model.specs.Held.{Table, minBelow}
 use Rattle.model.specs.Ends.{pointAt}
 use Rattle.integers.specs.Rep.{le-or-lt}
 use Rattle.integers.specs.Pairs.{unit}
-use Rattle.quadratic.specs.Quad.{none, Fine}
+use Rattle.quadratic.specs.Quad.{none, Fine, countLimit, costLimit}
 use Rattle.curve.specs.declared.Low.{Low}
 use Rattle.curve.specs.declared.Rank.{Rank}
 use Rattle.curve.specs.Pieces.{piece, Held}
-use Rattle.curve.specs.Lows.{few, lowOf, rankOf, costs, Least, LeastIn}
+use Rattle.curve.specs.Lows.{lowOf, rankOf, costs, Least, LeastIn}
 use Rattle.curve.specs.Curve.{Curve, Limits, curve-fine, curve-most}
-use Rattle.edges.specs.Edge.{most, Sound}
+use Rattle.edges.specs.Edge.{Sound}
 use Rattle.layer.specs.declared.Shape.{Shape}
 use Rattle.layer.specs.Layer.{listAt, ShapeOf}
 use Rattle.back.specs.Read.{Readable, Reads, min-one-more, min-none-yet}
@@ -29,11 +29,11 @@ module _ {n cur : ℕ} {g : Shape} {ws : List ℕ} (a : Readable n cur g ws) (k 
   pub held : Held ws f (g .levels)
   held = subst (λ (o : ℕ). Held ws o (g .levels)) (sym ef) (a .list k s hk hs .held)
 
-  pub fine : (j : ℕ) → j < g .levels → Fine 1048576 18014398509481984 (piece ws f (g .levels) j) (g .base + j)
-  fine = subst (λ (o : ℕ). (j : ℕ) → j < g .levels → Fine 1048576 18014398509481984 (piece ws o (g .levels) j) (g .base + j)) (sym ef) (curve-fine (a .bounds) (a .list k s hk hs))
+  pub fine : (j : ℕ) → j < g .levels → Fine countLimit costLimit (piece ws f (g .levels) j) (g .base + j)
+  fine = subst (λ (o : ℕ). (j : ℕ) → j < g .levels → Fine countLimit costLimit (piece ws o (g .levels) j) (g .base + j)) (sym ef) (curve-fine (a .bounds) (a .list k s hk hs))
 
-  pub sound : Sound most 18014398509481984 (g .base) (g .levels) ws f
-  sound = subst (λ (o : ℕ). Sound most 18014398509481984 (g .base) (g .levels) ws o) (sym ef) (a .list k s hk hs)
+  pub sound : Sound countLimit costLimit (g .base) (g .levels) ws f
+  sound = subst (λ (o : ℕ). Sound countLimit costLimit (g .base) (g .levels) ws o) (sym ef) (a .list k s hk hs)
 
   module _ {H : Table} (r : Reads n cur g ws H) where
     cost-is : (j : ℕ) → j < g .levels → costs (g .base) (piece ws f (g .levels)) j ≡ H k s j
@@ -75,7 +75,7 @@ min-cost x y = ⊎-elim
     (le-or-lt x y)
 
 pub point-more : (cur : ℕ) (g : Shape) (ws : List ℕ) (s j n best f : ℕ) (v : Rank) (r : ℕ) → best ≡ pointTo cur g ws s j n / unit → f ≡ listAt cur (g .states) (g .levels) n s
-    → rankOf v ≡ costs (g .base) (piece ws f (g .levels)) j → v .changes ≤ few → r ≡ min best (v .value) → r ≡ pointTo cur g ws s j (n + 1) / unit
+    → rankOf v ≡ costs (g .base) (piece ws f (g .levels)) j → v .changes ≤ countLimit → r ≡ min best (v .value) → r ≡ pointTo cur g ws s j (n + 1) / unit
 point-more cur g ws s j n best f v r eb ef ev hv er =
     let here : ℕ = costs (g .base) (piece ws (listAt cur (g .states) (g .levels) n s) (g .levels)) j in
     let w : rankOf v ≡ here = ev ∙ ap (λ (o : ℕ). costs (g .base) (piece ws o (g .levels)) j) ef in

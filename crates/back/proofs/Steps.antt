@@ -10,7 +10,7 @@ use lib.Dec.{eqb, ltb}
 use borrow.Author.Tests.{ltb-true, eqb-true, lt-ltb, eq-eqb, ne-eqb}
 use Rattle.integers.specs.Rep.{le-or-lt}
 use Rattle.integers.specs.Pairs.{lex}
-use Rattle.quadratic.specs.Quad.{none}
+use Rattle.quadratic.specs.Quad.{none, countLimit}
 use Rattle.plan.specs.declared.Plan.{Plan}
 use Rattle.plan.specs.declared.Edge.{Edge}
 use Rattle.plan.specs.declared.Label.{Label}
@@ -22,7 +22,7 @@ use Rattle.model.specs.Held.{Table, fromCount, leadsAt, edgeLeast, edgeWeight}
 use Rattle.labels.specs.Boundary.{leadsFrom, leads-at, leads-from-used}
 use Rattle.curve.specs.declared.Low.{Low}
 use Rattle.curve.specs.Pieces.{piece}
-use Rattle.curve.specs.Lows.{few, lowOf, costs}
+use Rattle.curve.specs.Lows.{lowOf, costs}
 use Rattle.edges.specs.Back.{LeastOf, Offered, offered, offered-none, least-same}
 use Rattle.layer.specs.declared.Shape.{Shape}
 use Rattle.layer.specs.Layer.{listAt, ShapeOf}
@@ -30,7 +30,7 @@ use Rattle.layer.specs.Step.{source}
 use Rattle.back.specs.Read.{Readable, Reads}
 use Rattle.back.specs.Step.{meetsAt, MayOffer, Offers, BackReady, Meets, StepFound}
 
-pub offers-none : (o : Option Label) (t : ℕ) (x : Edge) (k s j cur : ℕ) (g : Shape) (ws : List ℕ) (r : Low) → leadsFrom o t x k s ≡ false → noCost ≤ lowOf r → r .changes ≤ few → Offers o t x k s j cur g ws r
+pub offers-none : (o : Option Label) (t : ℕ) (x : Edge) (k s j cur : ℕ) (g : Shape) (ws : List ℕ) (r : Low) → leadsFrom o t x k s ≡ false → noCost ≤ lowOf r → r .changes ≤ countLimit → Offers o t x k s j cur g ws r
 offers-none o t x k s j cur g ws r e h n = record { changes = n; off = λ q. h; on = λ q. let z : _≡_ {A = Bool} true false = sym q ∙ e in let y : _≡_ {A = ℕ} 0 1 = cc in absurd (omega arith) }
 
 pub offers-some : (o : Option Label) (t : ℕ) (x : Edge) (k s j cur : ℕ) (g : Shape) (ws : List ℕ) (r : Low) (f : ℕ) → leadsFrom o t x k s ≡ true → f ≡ source o t x k cur g
@@ -54,7 +54,7 @@ meets-low : (v p w : ℕ) → v < noCost → eqb (v + p) w ≡ meetsAt v p w
 meets-low v p w h = rw (lt-ltb v noCost h) refl
 
 -- by the cost, and then by the changes
-module _ (low : Low) (pen ch want changes : ℕ) (one : ch ≤ 1) (few-low : low .changes ≤ few) (few-want : changes ≤ few) where
+module _ (low : Low) (pen ch want changes : ℕ) (one : ch ≤ 1) (few-low : low .changes ≤ countLimit) (few-want : changes ≤ countLimit) where
   pub meets-none : none ≤ low .value → false ≡ meetsAt (lowOf low) (lex pen ch) (lex want changes)
   meets-none h = go (ltb (lowOf low) noCost) refl
     where

@@ -10,7 +10,7 @@ use lib.IntN.{ℤ}
 use lib.ListN.{length}
 use Rattle.integers.specs.Rep.{le-or-lt}
 use Rattle.integers.specs.Pairs.{lex}
-use Rattle.quadratic.specs.Quad.{none}
+use Rattle.quadratic.specs.Quad.{none, countLimit, costLimit}
 use Rattle.plan.specs.declared.Plan.{Plan}
 use Rattle.model.specs.Model.{width, inSet}
 use Rattle.model.specs.Labels.{labelOn, counts, usedAt, used-most}
@@ -22,7 +22,7 @@ use Rattle.curve.specs.declared.Low.{Low}
 use Rattle.curve.specs.Pieces.{piece}
 use Rattle.curve.specs.Lows.{lowOf, costs, Least, LeastIn}
 use Rattle.curve.specs.Curve.{Curve, Limits, curve-costs, curve-wider, curve-most}
-use Rattle.edges.specs.Edge.{most, Sound}
+use Rattle.edges.specs.Edge.{Sound}
 use Rattle.layer.specs.declared.Shape.{Shape}
 use Rattle.layer.specs.Layer.{readingMost, countMost, baseOf, placeMost, listAt, Shape-small, ShapeOf, LayerOf}
 use Rattle.layer.specs.Next.{Task}
@@ -38,8 +38,8 @@ pub record Readable (n cur : ℕ) (g : Shape) (ws : List ℕ) : Type 0 where
   pub small : Shape-small g
   pub some : 0 < g .levels
   pub place : cur ≤ placeMost
-  pub bounds : Limits most 18014398509481984 (g .base) (g .levels)
-  pub list : (k s : ℕ) → k < n → s < g .states → Sound most 18014398509481984 (g .base) (g .levels) ws (listAt cur (g .states) (g .levels) k s)
+  pub bounds : Limits countLimit costLimit (g .base) (g .levels)
+  pub list : (k s : ℕ) → k < n → s < g .states → Sound countLimit costLimit (g .base) (g .levels) ws (listAt cur (g .states) (g .levels) k s)
 
 -- and their values are H
 pub record Reads (n cur : ℕ) (g : Shape) (ws : List ℕ) (H : Table) : Type 0 where
@@ -182,8 +182,8 @@ module _ {P : Plan} {zs : List ℤ} {g : Shape} (a : Task P zs g) {t cur : ℕ} 
     small = shape-small a;
     some = some-levels a;
     place = h;
-    bounds = limits a most 18014398509481984 (omega arith) (omega arith);
-    list = λ k s hk hs. curve-costs (curve-wider most 18014398509481984 (omega arith) (omega (arith, mul-le-mul-right readingMost few)) (list-here k s hk hs));
+    bounds = limits a countLimit costLimit (omega arith) (omega arith);
+    list = λ k s hk hs. curve-costs (curve-wider countLimit costLimit (omega arith) (omega (arith, mul-le-mul-right readingMost few)) (list-here k s hk hs));
   }
 
 -- fewer counts of it

@@ -16,9 +16,10 @@ use Rattle.model.specs.Checked.{Checked}
 use Rattle.model.specs.Index.{noCost, Permitted}
 use Rattle.model.specs.Held.{Table, fromCount, leadsAt, edgeLeast, edgeWeight}
 use Rattle.labels.specs.Boundary.{leadsFrom}
+use Rattle.quadratic.specs.Quad.{countLimit}
 use Rattle.curve.specs.declared.Low.{Low}
 use Rattle.curve.specs.Pieces.{piece}
-use Rattle.curve.specs.Lows.{few, lowOf, costs}
+use Rattle.curve.specs.Lows.{lowOf, costs}
 use Rattle.edges.specs.Back.{LeastOf}
 use Rattle.layer.specs.declared.Shape.{Shape}
 use Rattle.layer.specs.Layer.{ShapeOf}
@@ -40,7 +41,7 @@ pub record MayOffer (o : Option Label) (t : ℕ) (x : Edge) (k s j : ℕ) (g : S
 pub record Offers (o : Option Label) (t : ℕ) (x : Edge) (k s j cur : ℕ) (g : Shape) (ws : List ℕ) (r : Low) : Type 0 where
   pub off : leadsFrom o t x k s ≡ false → noCost ≤ lowOf r
   pub on : leadsFrom o t x k s ≡ true → LeastOf (λ (i : ℕ). Permitted (x .kind) i j) (g .levels) (costs (g .base) (piece ws (source o t x k cur g) (g .levels))) r
-  pub changes : r .changes ≤ few
+  pub changes : r .changes ≤ countLimit
 
 pub record BackReady (P : Plan) (o : Option Label) (t k s j : ℕ) (g : Shape) : Type 0 where
   pub checked : Checked P
@@ -66,5 +67,5 @@ pub record StepFound (P : Plan) (t : ℕ) (H : Table) (k s j want e i v : ℕ) :
   pub first : (i′ : ℕ) → i′ < i → Permitted (edgeAt P e .kind) i′ j → H (fromCount P t e k) (edgeAt P e .from) i′ ≡ edgeLeast P t H k j e → ⊥
 
 abbrev pub StepTo : Plan → ℕ → Table → ℕ → ℕ → ℕ → ℕ → Back → Type 0
-StepTo P t H k s j want (To e i v c) = StepFound P t H k s j want e i (lex v c) × (c ≤ few)
+StepTo P t H k s j want (To e i v c) = StepFound P t H k s j want e i (lex v c) × (c ≤ countLimit)
 StepTo P t H k s j want Lost = (e : ℕ) → e < P .edgecount → Meets P t H k s j want e → ⊥

@@ -8,7 +8,8 @@ use plan::Plan;
 ghost use mathlib.Core.Path.{_≡_};
 ghost use Prim.Native.Nat.{ℕ, _+_, _*_, _/_, _≤_, _<_};
 ghost use Rattle.integers.specs.Pairs.{unit, lex};
-ghost use Rattle.curve.specs.Lows.{few, lowOf};
+ghost use Rattle.quadratic.specs.Quad.{countLimit};
+ghost use Rattle.curve.specs.Lows.{lowOf};
 ghost use Rattle.model.specs.Held.{Table};
 ghost use Rattle.model.specs.Ends.{pointAt};
 ghost use Rattle.model.specs.Labels.{used};
@@ -28,8 +29,8 @@ pub struct End {
 
 // The better of the best end so far and the best of state s, which comes later.
 fn better_end(ws: &[u64], plan: Plan, cur: usize, g: Shape, s: usize, best: End) -> End
-    requires { ⌜ Readable 1 cur g (now ws) × (ShapeOf plan g × ((s < plan .states) × (best .changes ≤ few))) ⌝ }
-    ensures { λ r. ⌜ (r .changes ≤ few) × ((H : Table) → Reads 1 cur g (now (ws .entry)) H → EndTo plan H s best → EndTo plan H (s + 1) r) ⌝ }
+    requires { ⌜ Readable 1 cur g (now ws) × (ShapeOf plan g × ((s < plan .states) × (best .changes ≤ countLimit))) ⌝ }
+    ensures { λ r. ⌜ (r .changes ≤ countLimit) × ((H : Table) → Reads 1 cur g (now (ws .entry)) H → EndTo plan H s best → EndTo plan H (s + 1) r) ⌝ }
 {
     if !layer::in_set(plan.end, s) {
         return best;
@@ -53,7 +54,7 @@ fn better_end(ws: &[u64], plan: Plan, cur: usize, g: Shape, s: usize, best: End)
 // open at the end, so the lists of count 0 are all that is read.
 pub fn best_end(ws: &[u64], plan: Plan, cur: usize, g: Shape) -> End
     requires { ⌜ Readable 1 cur g (now ws) × ShapeOf plan g ⌝ }
-    ensures { λ r. ⌜ (r .changes ≤ few) × ((H : Table) → Reads 1 cur g (now (ws .entry)) H → EndTo plan H (plan .states) r) ⌝ }
+    ensures { λ r. ⌜ (r .changes ≤ countLimit) × ((H : Table) → Reads 1 cur g (now (ws .entry)) H → EndTo plan H (plan .states) r) ⌝ }
 {
     let states = g.states;
     let mut best = End {
@@ -122,7 +123,7 @@ fn offer_of(
 
 // A cost there is, which with the penalty is the wanted one, and which has the wanted changes with those of the edge.
 fn meets(low: Low, pen: u64, ch: u64, want: u64, changes: u64) -> bool
-    requires { ⌜ ((pen ≤ 1152921504606846976) × (ch ≤ 1)) × ((low .changes ≤ few) × (changes ≤ few)) ⌝ }
+    requires { ⌜ ((pen ≤ 1152921504606846976) × (ch ≤ 1)) × ((low .changes ≤ countLimit) × (changes ≤ countLimit)) ⌝ }
     ensures { λ r. ⌜ r ≡ meetsAt (lowOf low) (lex pen ch) (lex want changes) ⌝ }
 {
     if low.value >= quadratic::NONE {
@@ -162,7 +163,7 @@ pub fn step_back(
     changes: u64,
     g: Shape,
 ) -> Back
-    requires { ⌜ Readable (used (labelOf on)) cur g (now ws) × ((BackReady plan (labelOf on) t k s j g × (changes ≤ few)) × Coded plan (now code)) ⌝ }
+    requires { ⌜ Readable (used (labelOf on)) cur g (now ws) × ((BackReady plan (labelOf on) t k s j g × (changes ≤ countLimit)) × Coded plan (now code)) ⌝ }
     ensures { λ r. ⌜ ((H : Table) → Reads (used (labelOf on)) cur g (now (ws .entry)) H → StepTo plan t H k s j (lex want changes) r) ⌝ }
 {
     let n = plan.edgecount;

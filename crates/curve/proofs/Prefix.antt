@@ -7,13 +7,13 @@ use native.Mathlib.Omega.{arith}
 use Rattle.integers.specs.Rep.{le-or-lt}
 use Rattle.integers.specs.Pairs.{lex}
 use Rattle.quadratic.specs.Fine.{value-most, fine-sized, late-is}
-use Rattle.quadratic.specs.Quad.{Quad, up, down, cost, value, flat, noValue, late, Small, Sized, Lowest, Stays, Under, Over, Fine}
+use Rattle.quadratic.specs.Quad.{Quad, up, down, cost, value, flat, noValue, late, Small, Sized, Lowest, Stays, Under, Over, Fine, countLimit, costLimit}
 use Rattle.curve.specs.declared.Low.{Low}
 use Rattle.curve.specs.declared.Run.{Run}
 use Rattle.curve.specs.Pieces.{Emits, Appended}
 use Rattle.curve.specs.Lists.{emits-append, emits-then, emits-as}
 use Rattle.curve.proofs.Laws.{small}
-use Rattle.curve.specs.Lows.{top, topCost, few, lowOf, noLow, costs, levelled, levelled-is, Least, LeastIn, Drops, Prefixed, Lowered, lowest, prefixOf, lowest-new, lowest-stays, lowest-falls, prefix-new, prefix-old}
+use Rattle.curve.specs.Lows.{top, topCost, lowOf, noLow, costs, levelled, levelled-is, Least, LeastIn, Drops, Prefixed, Lowered, lowest, prefixOf, lowest-new, lowest-stays, lowest-falls, prefix-new, prefix-old}
 
 pub drops-crossed : (p : Quad) (best a v base r : ℕ) → a ≤ v → Over (flat best 0) p (base + v) → Stays (flat best 0) p (base + a) (base + v) r → Drops p best a v base (r - base + 1)
 drops-crossed p best a v base r h o t = record {
@@ -33,7 +33,7 @@ pub drops-first : (p : Quad) (best a v base : ℕ) → a ≤ v → Over (flat be
 drops-first p best a v base h o = record { low = omega arith; high = h; before = λ m u w. absurd (omega arith); at = o }
 
 -- ---- a piece where it is in force
-pub fine-on : (P : ℕ → Quad) (L base x e : ℕ) (q : Quad) → base + L ≤ 262144 → ((j : ℕ) → j < L → Fine 1048576 18014398509481984 (P j) (base + j)) → x ≤ e → e < L → ((j : ℕ) → x ≤ j → j ≤ e → P j ≡ q)
+pub fine-on : (P : ℕ → Quad) (L base x e : ℕ) (q : Quad) → base + L ≤ 262144 → ((j : ℕ) → j < L → Fine countLimit costLimit (P j) (base + j)) → x ≤ e → e < L → ((j : ℕ) → x ≤ j → j ≤ e → P j ≡ q)
     → Small q × ((v : ℕ) → base + x ≤ v → v ≤ base + e → down q v ≤ up q v)
 fine-on P L base x e q r f h k i = (small (subst Sized (i x (omega arith) h) (fine-sized (record { readings = omega arith; cost = omega arith; place = omega arith }) (f x (omega arith)))), whole)
   where
@@ -43,7 +43,7 @@ fine-on P L base x e q r f h k i = (small (subst Sized (i x (omega arith) h) (fi
         subst (λ (n : ℕ). down q n ≤ up q n) w (subst (λ (p : Quad). down p (base + (v - base)) ≤ up p (base + (v - base))) (i (v - base) (omega arith) (omega arith)) (f (v - base) (omega arith) .whole))
 
 -- its values are none or less
-pub fine-most : (P : ℕ → Quad) (L base : ℕ) → base + L ≤ 262144 → ((j : ℕ) → j < L → Fine 1048576 18014398509481984 (P j) (base + j)) → (j : ℕ) → j < L → costs base P j ≤ noValue
+pub fine-most : (P : ℕ → Quad) (L base : ℕ) → base + L ≤ 262144 → ((j : ℕ) → j < L → Fine countLimit costLimit (P j) (base + j)) → (j : ℕ) → j < L → costs base P j ≤ noValue
 fine-most P L base r f j h = value-most (record { readings = omega arith; cost = omega arith; place = omega arith }) (f j h)
 
 -- where it is least: v is the place, and w its value
@@ -73,11 +73,11 @@ module _ (p : Quad) (base a e v w : ℕ) (whole : (u : ℕ) → base + a ≤ u �
     flat-at x b j g z h u = let k : x + (j - x) ≡ j = omega arith in subst (λ (t : ℕ). lowest (costs base F) t ≡ b) k (lowest-stays (costs base F) x b z (j - x) (λ i m n. h i m (omega arith)))
 
     -- the least before, a cost x with k changes, put out where it stays the least
-    flat-old : (x k j : ℕ) → k ≤ few → lowest (costs base F) j ≡ lex x k → lex x k ≤ costs base F j → flat x k ≡ prefixOf base F j
+    flat-old : (x k j : ℕ) → k ≤ countLimit → lowest (costs base F) j ≡ lex x k → lex x k ≤ costs base F j → flat x k ≡ prefixOf base F j
     flat-old x k j h z g = sym (levelled-is x k h) ∙ sym (prefix-old base F j (lex x k) z g)
 
     -- nothing less than before
-    pub prefix-flat : {ws ws′ : List ℕ} {dst n r : ℕ} (x k : ℕ) → k ≤ few → a ≤ e → lex x k ≤ w → lowest (costs base F) a ≡ lex x k → Emits (λ (j : ℕ). flat x k) ws ws′ dst n a (e + 1) r
+    pub prefix-flat : {ws ws′ : List ℕ} {dst n r : ℕ} (x k : ℕ) → k ≤ countLimit → a ≤ e → lex x k ≤ w → lowest (costs base F) a ≡ lex x k → Emits (λ (j : ℕ). flat x k) ws ws′ dst n a (e + 1) r
         → Emits (prefixOf base F) ws ws′ dst n a (e + 1) r × (lowest (costs base F) (e + 1) ≡ lex x k)
     prefix-flat x k hk h g z m = (emits-as (λ j u t. flat-old x k j hk (flat-at a (lex x k) j (omega arith) z (λ i c d. more i c (omega arith)) u) (more j u (omega arith))) m, flat-at a (lex x k) (e + 1) (omega arith) z (λ i c d. more i c (omega arith)) (omega arith))
       where
@@ -85,7 +85,7 @@ module _ (p : Quad) (base a e v w : ℕ) (whole : (u : ℕ) → base + a ≤ u �
         more i c d = omega (arith, here i c d, at-least i c d)
 
     -- less from s on, down to v; then v's, a cost y with p's changes
-    pub prefix-falls : {ws w1 w2 ws′ : List ℕ} {dst n n1 n2 r : ℕ} (x k y s : ℕ) → k ≤ few → p .k ≤ few → w ≡ lex y (p .k) → n ≤ a → v ≤ e → Drops p (x + late k (p .k)) a v base s → lowest (costs base F) a ≡ lex x k
+    pub prefix-falls : {ws w1 w2 ws′ : List ℕ} {dst n n1 n2 r : ℕ} (x k y s : ℕ) → k ≤ countLimit → p .k ≤ countLimit → w ≡ lex y (p .k) → n ≤ a → v ≤ e → Drops p (x + late k (p .k)) a v base s → lowest (costs base F) a ≡ lex x k
         → Emits (λ (j : ℕ). flat x k) ws w1 dst n a s n1 → Appended w1 w2 dst n1 v p n2 → Emits (λ (j : ℕ). flat y (p .k)) w2 ws′ dst n2 (v + 1) (e + 1) r
         → Emits (prefixOf base F) ws ws′ dst n a (e + 1) r × (lowest (costs base F) (e + 1) ≡ lex y (p .k))
     prefix-falls x k y s hk hp wy hn hv d z m1 m2 m3 = (
@@ -125,18 +125,18 @@ module _ (p : Quad) (base a e v w : ℕ) (whole : (u : ℕ) → base + a ≤ u �
         rest i c g = omega (arith, wy, here i (omega (arith, d .low, d .high)) g, at-least i (omega (arith, d .low, d .high)) g)
 
 -- ---- the least on a range
-pub lowered-empty : (best : Low) (p : Quad) (a b base : ℕ) → best .changes ≤ few → b < a → Lowered best p a b base best
+pub lowered-empty : (best : Low) (p : Quad) (a b base : ℕ) → best .changes ≤ countLimit → b < a → Lowered best p a b base best
 lowered-empty best p a b base k h = record { least = λ m u t. absurd (omega arith); is = inl refl; changes = k }
 
 module _ (best : Low) (p : Quad) (a b base v w : ℕ) (whole : (u : ℕ) → base + a ≤ u → u ≤ base + b → down p u ≤ up p u) (l : Lowest p (base + a) (base + b) v) (ew : w ≡ value p v) where
-  pub lowered-new : (y : ℕ) → y ≡ cost p v → p .k ≤ few → lex y (p .k) < lowOf best → Lowered best p a b base (record { value = y; changes = p .k; level = v - base })
+  pub lowered-new : (y : ℕ) → y ≡ cost p v → p .k ≤ countLimit → lex y (p .k) < lowOf best → Lowered best p a b base (record { value = y; changes = p .k; level = v - base })
   lowered-new y ey k h = record {
     least = λ m u t. omega (arith, ey, ew, at-most p a b base v w whole l ew m u t);
     is = inr ((omega (arith, l .low), omega (arith, l .low, l .high)), (ap (λ (x : ℕ). lex x (p .k)) ey ∙ sym ew ∙ at-level p a b base v w whole l ew, (h, λ m u t. omega (arith, ey, l .first (base + m) (omega arith) (omega (arith, l .low)), l .high, whole (base + m) (omega arith) (omega (arith, l .low, l .high)), whole v (l .low) (l .high)))));
     changes = k;
   }
 
-  pub lowered-old : best .changes ≤ few → lowOf best ≤ w → Lowered best p a b base best
+  pub lowered-old : best .changes ≤ countLimit → lowOf best ≤ w → Lowered best p a b base best
   lowered-old k h = record { least = λ m u t. omega (arith, at-most p a b base v w whole l ew m u t); is = inl refl; changes = k }
 
 -- best is the least of G at those levels of [from, to] that are below x
@@ -144,7 +144,7 @@ pub record Till (G : ℕ → ℕ) (from to x : ℕ) (best : Low) : Type 0 where
   pub least : (m : ℕ) → from ≤ m → m ≤ to → m < x → lowOf best ≤ G m
   pub first : (m : ℕ) → from ≤ m → m ≤ to → m < x → m < best .level → lowOf best < G m
   pub is : (best ≡ noLow) ⊎ (((from ≤ best .level) × (best .level ≤ to)) × ((best .level < x) × (lowOf best ≡ G (best .level))))
-  pub changes : best .changes ≤ few
+  pub changes : best .changes ≤ countLimit
   pub high : best .value ≤ topCost
 
 pub till-none : (G : ℕ → ℕ) (from to : ℕ) → Till G from to 0 noLow

@@ -6,13 +6,13 @@ use Prim.Native.Nat.{ℕ, _+_, _*_, _-_, _≤_, _<_}
 use native.Mathlib.Omega.{arith}
 use borrow.Author.Tests.{eq-eqb, ne-eqb}
 use Rattle.integers.specs.Rep.{le-or-lt}
-use Rattle.quadratic.specs.Quad.{Quad, up, down, cost, value, flat, none, noValue, Lowest, AtMost, Less}
+use Rattle.quadratic.specs.Quad.{Quad, up, down, cost, value, flat, none, noValue, Lowest, AtMost, Less, countLimit}
 use Rattle.quadratic.proofs.Laws.{rises-after, falls-before}
 use Rattle.curve.specs.declared.Rank.{Rank}
 use Rattle.curve.specs.declared.Two.{Two}
 use Rattle.curve.specs.Pieces.{Emits, Made, constantBut}
 use Rattle.curve.specs.Lists.{emits-then, emits-as, made}
-use Rattle.curve.specs.Lows.{few, rankOf, leastOf, secondOf, Beside, TwoLeast, LessAt}
+use Rattle.curve.specs.Lows.{rankOf, leastOf, secondOf, Beside, TwoLeast, LessAt}
 use Rattle.curve.proofs.Prefix.{at-most, at-level}
 
 pub two-none : (G : ℕ → ℕ) → TwoLeast G 0 (record { value = none; changes = 0; level = 0; second = none; secondchanges = 0 })
@@ -27,7 +27,7 @@ module _ (best : Two) (p : Quad) (a e base v w : ℕ) (whole : (u : ℕ) → bas
   here = at-level p a e base v w whole l ew ∙ sym (g (v - base) (omega (arith, l .low)) (omega (arith, l .high)) .0)
 
   -- w is not less than the least so far
-  pub two-kept : (s : Rank) → s .changes ≤ few → leastOf best ≤ w → (rankOf s ≤ secondOf best) × (rankOf s ≤ w) → (rankOf s ≡ secondOf best) ⊎ (rankOf s ≡ w)
+  pub two-kept : (s : Rank) → s .changes ≤ countLimit → leastOf best ≤ w → (rankOf s ≤ secondOf best) × (rankOf s ≤ w) → (rankOf s ≡ secondOf best) ⊎ (rankOf s ≡ w)
       → TwoLeast G (e + 1) (record { value = best .value; changes = best .changes; level = best .level; second = s .value; secondchanges = s .changes })
   two-kept s ks h k f = record {
     least = λ m y. ⊎-elim (λ x. omega (arith, low m x y)) (λ x. t .least m x) (le-or-lt a m);
@@ -49,7 +49,7 @@ module _ (best : Two) (p : Quad) (a e base v w : ℕ) (whole : (u : ℕ) → bas
           (t .is)
 
   -- w is less: the levels beside it and the least so far are left
-  pub two-new : (y : ℕ) (b s s′ : Rank) → y ≡ cost p v → p .k ≤ few → rankOf b ≡ leastOf best → 0 < base → w < leastOf best → LessAt b p (v - 1) (base + a) (base + e) s → LessAt s p (v + 1) (base + a) (base + e) s′
+  pub two-new : (y : ℕ) (b s s′ : Rank) → y ≡ cost p v → p .k ≤ countLimit → rankOf b ≡ leastOf best → 0 < base → w < leastOf best → LessAt b p (v - 1) (base + a) (base + e) s → LessAt s p (v + 1) (base + a) (base + e) s′
       → TwoLeast G (e + 1) (record { value = y; changes = p .k; level = v - base; second = s′ .value; secondchanges = s′ .changes })
   two-new y b s s′ ey kp eb pb h f k = record {
     least = λ m z. ⊎-elim (λ x. omega (arith, ey, ew, low m x z)) (λ x. omega (arith, ey, ew, t .least m x)) (le-or-lt a m);

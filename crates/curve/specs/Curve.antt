@@ -14,7 +14,7 @@ use lib.ListN.{length, getD}
 use borrow.Author.Tests.{le-leb, lt-leb, lt-ltb, le-ltb, eq-eqb}
 use Rattle.integers.specs.Rep.{le-or-lt}
 use Rattle.integers.specs.Pairs.{unit, lex}
-use Rattle.quadratic.specs.Quad.{Quad, up, down, value, none, noValue, flat, absent, Small, Sized, Fine, pick, raised, pushed, moved, mirrored, late, better}
+use Rattle.quadratic.specs.Quad.{Quad, up, down, value, none, noValue, flat, absent, Small, Sized, Fine, pick, raised, pushed, moved, mirrored, late, better, countLimit, costLimit}
 use Rattle.quadratic.specs.Fine.{pickN, Bounds, far, plus, square-most, fine-sized, fine-none, fine-flat, fine-wider, fine-raised, value-raised, fine-pushed, value-pushed, fine-moved, value-moved, mirror-sum, mirror-rest, fine-mirrored, value-mirrored, value-better, fine-better, value-most, value-absent, kinds, few}
 use Rattle.curve.specs.declared.Two.{Two}
 use Rattle.curve.specs.Pieces.{piece, noneOnly, Formed, Kept, Same, Apart, Made, Held, Lent, Copyable, Copied, shiftOf, mirrorOf, Turnable, Yields}
@@ -36,8 +36,8 @@ pub record Curve (A B base L : ℕ) (ws : List ℕ) (o : ℕ) (F : ℕ → ℕ) 
 
 -- the grid's places, and the bounds of the whole search
 pub record Limits (A B base L : ℕ) : Type 0 where
-  pub readings : A ≤ 1048576
-  pub cost : B ≤ 18014398509481984
+  pub readings : A ≤ countLimit
+  pub cost : B ≤ costLimit
   pub low : 131072 ≤ base
   pub high : base + L ≤ 262144
 
@@ -85,8 +85,8 @@ module _ {A B base L : ℕ} (l : Limits A B base L) {ws : List ℕ} {o : ℕ} {F
   pub curve-whole : (j : ℕ) → j < L → Small (piece ws o L j) × (down (piece ws o L j) (base + j) ≤ up (piece ws o L j) (base + j))
   curve-whole j h = let s = curve-sized j h in (record { count = s .count; sum = s .sum; rest = omega (arith, s .rest); few = s .few }, c .at j h .fine .whole)
 
-  pub curve-fine : (j : ℕ) → j < L → Fine 1048576 18014398509481984 (piece ws o L j) (base + j)
-  curve-fine j h = fine-wider 1048576 18014398509481984 (l .readings) (l .cost) (c .at j h .fine)
+  pub curve-fine : (j : ℕ) → j < L → Fine countLimit costLimit (piece ws o L j) (base + j)
+  curve-fine j h = fine-wider countLimit costLimit (l .readings) (l .cost) (c .at j h .fine)
 
   value-none : (j : ℕ) → j < L → piece ws o L j ≡ absent → F j ≡ noValue
   value-none j h e = sym (c .at j h .is) ∙ subst (λ (q : Quad). value q (base + j) ≡ noValue) (sym e) (value-absent (base + j))

@@ -10,7 +10,7 @@ use borrow.Author.Tests.{lt-ltb, le-ltb}
 use Rattle.integers.specs.Rep.{le-or-lt}
 use Rattle.integers.specs.Pairs.{unit, lex, first-is, second-is}
 use Rattle.quadratic.specs.Fine.{pickN}
-use Rattle.quadratic.specs.Quad.{Quad, value, none, noValue, flat, pick, Fine, up, down, Under, Over}
+use Rattle.quadratic.specs.Quad.{Quad, value, none, noValue, flat, pick, Fine, up, down, Under, Over, countLimit}
 use Rattle.curve.specs.declared.Rank.{Rank}
 use Rattle.curve.specs.declared.Low.{Low}
 use Rattle.curve.specs.declared.Run.{Run}
@@ -23,10 +23,6 @@ topCost = 1152921504606846977
 
 abbrev pub top : ℕ
 top = unit * topCost
-
--- no more changes than this are in force anywhere
-abbrev pub few : ℕ
-few = 1048576
 
 -- the values that are handed on
 abbrev pub rankOf : Rank → ℕ
@@ -68,7 +64,7 @@ noLow = record { value = topCost; changes = 0; level = 0 }
 pub record LeastIn (G : ℕ → ℕ) (from to : ℕ) (r : Low) : Type 0 where
   pub some : from ≤ to → Least G from to r
   pub empty : to < from → r ≡ noLow
-  pub changes : r .changes ≤ few
+  pub changes : r .changes ≤ countLimit
   pub high : r .value ≤ topCost
 
 -- the least of G at the levels below j, and top where there are none
@@ -90,13 +86,13 @@ pub record Drops (p : Quad) (best a v base r : ℕ) : Type 0 where
 -- the pieces of the least so far at the levels from a to e, where p is in force
 pub record Prefixed (ws ws′ : List ℕ) (dst base a e : ℕ) (p : Quad) (run r : Run) : Type 0 where
   pub on : (F : ℕ → Quad) → ((j : ℕ) → a ≤ j → j ≤ e → F j ≡ p) → lowest (costs base F) a ≡ bestOf run → Emits (prefixOf base F) ws ws′ dst (run .n) a (e + 1) (r .n) × (lowest (costs base F) (e + 1) ≡ bestOf r)
-  pub changes : r .changes ≤ few
+  pub changes : r .changes ≤ countLimit
 
 -- r is best, or p's least on [a, b], at its lowest level, where that is less
 pub record Lowered (best : Low) (p : Quad) (a b base : ℕ) (r : Low) : Type 0 where
   pub least : (m : ℕ) → a ≤ m → m ≤ b → lowOf r ≤ value p (base + m)
   pub is : (r ≡ best) ⊎ (((a ≤ r .level) × (r .level ≤ b)) × ((lowOf r ≡ value p (base + r .level)) × ((lowOf r < lowOf best) × ((m : ℕ) → a ≤ m → m < r .level → lowOf r < value p (base + m)))))
-  pub changes : r .changes ≤ few
+  pub changes : r .changes ≤ countLimit
 
 -- x is G's at a level below L that is not i
 pub record Beside (G : ℕ → ℕ) (L i x : ℕ) : Type 0 where
@@ -113,8 +109,8 @@ pub record TwoLeast (G : ℕ → ℕ) (L : ℕ) (r : Two) : Type 0 where
   pub is : ((leastOf r ≡ noValue) × (r .level ≡ 0)) ⊎ ((r .level < L) × (leastOf r ≡ G (r .level)))
   pub others : (m : ℕ) → m < L → (m ≡ r .level → ⊥) → secondOf r ≤ G m
   pub second : (secondOf r ≡ noValue) ⊎ Beside G L (r .level) (secondOf r)
-  pub changes : r .changes ≤ few
-  pub second-changes : r .secondchanges ≤ few
+  pub changes : r .changes ≤ countLimit
+  pub second-changes : r .secondchanges ≤ countLimit
 
 -- best is of the levels below a, r of those up to e, and from a on p is in force
 pub record TwoLowered (best : Two) (p : Quad) (a e base : ℕ) (r : Two) : Type 0 where
@@ -125,7 +121,7 @@ pub record LessAt (best : Rank) (p : Quad) (v x y : ℕ) (r : Rank) : Type 0 whe
   pub low : rankOf r ≤ rankOf best
   pub there : x ≤ v → v ≤ y → rankOf r ≤ value p v
   pub is : (rankOf r ≡ rankOf best) ⊎ (((x ≤ v) × (v ≤ y)) × (rankOf r ≡ value p v))
-  pub changes : r .changes ≤ few
+  pub changes : r .changes ≤ countLimit
 
 -- ---- laws
 pub lowest-zero : (G : ℕ → ℕ) → lowest G 0 ≡ top
@@ -178,7 +174,7 @@ prefix-new base F j h = rw (lt-ltb (costs base F j) (lowest (costs base F) j) h)
 pub prefix-old : (base : ℕ) (F : ℕ → Quad) (j b : ℕ) → lowest (costs base F) j ≡ b → b ≤ costs base F j → prefixOf base F j ≡ levelled b
 prefix-old base F j b e h = rw (e, le-ltb (costs base F j) b h)
 
-pub levelled-is : (x k : ℕ) → k ≤ few → levelled (lex x k) ≡ flat x k
+pub levelled-is : (x k : ℕ) → k ≤ countLimit → levelled (lex x k) ≡ flat x k
 levelled-is x k h = rw (first-is x k (omega arith), second-is x k (omega arith))
 
 pub lowest-most : (G : ℕ → ℕ) (j : ℕ) → lowest G j ≤ top

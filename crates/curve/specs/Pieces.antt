@@ -9,7 +9,7 @@ use lib.Dec.{leb, eqb}
 use lib.ListN.{length, getD, drop}
 use lib.Seq.{paste}
 use Rattle.quadratic.specs.Fine.{pickN}
-use Rattle.quadratic.specs.Quad.{Quad, Sized, pick, flat, absent, none, moved, mirrored, better}
+use Rattle.quadratic.specs.Quad.{Quad, quad, Sized, pick, flat, absent, none, moved, mirrored, better}
 use Rattle.curve.specs.declared.Two.{Two}
 
 -- the last level of the kth piece of the list at o, and its first
@@ -21,7 +21,7 @@ startOf ws o zero = 0
 startOf ws o (suc k) = endOf ws o k + 1
 
 abbrev pub quadAt : List ℕ → ℕ → Quad
-quadAt ws i = record { a = getD ws (i + 1) 0 % 4294967296; z = getD ws (i + 2) 0; c = getD ws (i + 3) 0; k = getD ws (i + 1) 0 / 4294967296 }
+quadAt ws i = quad (record { w = getD ws (i + 1) 0; z = getD ws (i + 2) 0; c = getD ws (i + 3) 0 })
 
 -- where the piece in force at level j begins, among the n pieces from o on
 unfoldable pub seek : ℕ → List ℕ → ℕ → ℕ → ℕ

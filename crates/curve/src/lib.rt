@@ -16,8 +16,8 @@ ghost use mathlib.Core.Bool.{true, false};
 ghost use mathlib.Core.Logic.{_⊎_};
 ghost use Prim.Native.Nat.{ℕ, _+_, _*_, _-_, _≤_, _<_};
 ghost use lib.ListN.{length, getD};
-ghost use Rattle.quadratic.specs.Quad.{quad, Small, Sized, Fine, raised, pushed, moved, mirrored, better, value, flat, none, up, down, Under, Over, Stays};
-ghost use Rattle.curve.specs.Lows.{few, rankOf, LeastIn, TwoLeast, TwoLowered, LessAt, Drops, Prefixed, Lowered, prefixOf, costs, lowest};
+ghost use Rattle.quadratic.specs.Quad.{quad, Small, Sized, Fine, raised, pushed, moved, mirrored, better, value, flat, none, up, down, Under, Over, Stays, countLimit, costLimit};
+ghost use Rattle.curve.specs.Lows.{rankOf, LeastIn, TwoLeast, TwoLowered, LessAt, Drops, Prefixed, Lowered, prefixOf, costs, lowest};
 ghost use Rattle.curve.specs.Pieces.{Yields, noneOnly, quadAt, Kept, Built, Is, Formed, piece, Stored, Appended, Emits, Made, Apart, Held, Lent, Copyable, Copied, shiftOf, mirrorOf, constantBut, Turnable};
 
 // The piece at a place, without its end.
@@ -162,7 +162,7 @@ pub fn least_of_two(
     base: u64,
 )
     requires { ⌜ Lent (now ws) f dst (4 * levels) levels × (Lent (now ws) g dst (4 * levels) levels × (dst + 4 * levels ≤ length (now ws))) ⌝ }
-    requires { ⌜ ((pen ≤ 1152921504606846976) × (ch ≤ 1048576)) × (base + levels ≤ 262144) ⌝ }
+    requires { ⌜ ((pen ≤ 1152921504606846976) × (ch ≤ countLimit)) × (base + levels ≤ 262144) ⌝ }
     requires { ⌜ ((j : ℕ) → j < levels → Sized (piece (now ws) f levels j)) ⌝ }
     requires { ⌜ ((j : ℕ) → j < levels → Sized (raised pen ch (piece (now ws) g levels j))) ⌝ }
     requires { ⌜ ((j : ℕ) → j < levels → Yields (base + j) (piece (now ws) f levels j) (raised pen ch (piece (now ws) g levels j))) ⌝ }
@@ -211,7 +211,7 @@ pub fn add_loss(ws: &mut [u64], f: usize, u: u64, w: u64, dst: usize, levels: u6
 
 // c with k changes at the levels from x up to y, y not among them.
 fn constant_to(ws: &mut [u64], dst: usize, n: usize, x: u64, y: u64, c: u64, k: u64) -> usize
-    requires { ⌜ ((n ≤ x) × (x ≤ y)) × ((dst + 4 * y ≤ length (now ws)) × (k ≤ few)) ⌝ }
+    requires { ⌜ ((n ≤ x) × (x ≤ y)) × ((dst + 4 * y ≤ length (now ws)) × (k ≤ countLimit)) ⌝ }
     ensures { λ r. ⌜ Emits (λ (j : ℕ). flat c k) (now (ws .entry)) (now (ws .exit)) dst n x y r ⌝ }
 {
     if x < y {
@@ -335,7 +335,7 @@ fn first_below(p: Packed, best: u64, a: u64, v: u64, base: u64) -> u64
 // has fewer changes.
 fn running_min_on(ws: &mut [u64], dst: usize, run: Run, p: Packed, a: u64, e: u64, base: u64) -> Run
     requires { ⌜ Small (quad p) × ((v : ℕ) → base + a ≤ v → v ≤ base + e → down (quad p) v ≤ up (quad p) v) ⌝ }
-    requires { ⌜ ((run .n ≤ a) × (a ≤ e)) × ((base + e < 262144) × ((run .best ≤ 1152921504606846977) × (run .changes ≤ few))) ⌝ }
+    requires { ⌜ ((run .n ≤ a) × (a ≤ e)) × ((base + e < 262144) × ((run .best ≤ 1152921504606846977) × (run .changes ≤ countLimit))) ⌝ }
     requires { ⌜ dst + 4 * (e + 1) ≤ length (now ws) ⌝ }
     ensures { λ r. ⌜ Prefixed (now (ws .entry)) (now (ws .exit)) dst base a e (quad p) run r ⌝ }
 {
@@ -399,7 +399,7 @@ fn greater(e: u64, h: u64) -> u64
 // The less of best and of the least of p on [a, b], which may be empty; best where they are equal.
 fn lower(best: Low, p: Packed, a: u64, b: u64, base: u64) -> Low
     requires { ⌜ Small (quad p) × ((v : ℕ) → base + a ≤ v → v ≤ base + b → down (quad p) v ≤ up (quad p) v) ⌝ }
-    requires { ⌜ (base + b < 262144) × (best .changes ≤ few) ⌝ }
+    requires { ⌜ (base + b < 262144) × (best .changes ≤ countLimit) ⌝ }
     ensures { λ r. ⌜ Lowered best (quad p) a b base r ⌝ }
 {
     if b < a {
@@ -423,7 +423,7 @@ fn lower(best: Low, p: Packed, a: u64, b: u64, base: u64) -> Low
 pub fn least_in(ws: &[u64], f: usize, from: u64, to: u64, levels: u64, base: u64) -> Low
     requires { ⌜ Held (now ws) f levels × (base + levels ≤ 262144) ⌝ }
     requires { ⌜ to < levels ⌝ }
-    requires { ⌜ ((j : ℕ) → j < levels → Fine 1048576 18014398509481984 (piece (now ws) f levels j) (base + j)) ⌝ }
+    requires { ⌜ ((j : ℕ) → j < levels → Fine countLimit costLimit (piece (now ws) f levels j) (base + j)) ⌝ }
     ensures { λ r. ⌜ LeastIn (costs base (piece (now (ws .entry)) f levels)) from to r ⌝ }
 {
     let mut best = Low {
@@ -457,7 +457,7 @@ pub struct Two {
 
 // The less of two, the first where they are equal.
 fn lesser_rank(a: Rank, b: Rank) -> Rank
-    requires { ⌜ (a .changes ≤ few) × ((b .changes ≤ few) × (b .value ≤ 4611686018427387904)) ⌝ }
+    requires { ⌜ (a .changes ≤ countLimit) × ((b .changes ≤ countLimit) × (b .value ≤ 4611686018427387904)) ⌝ }
     ensures { λ r. ⌜ ((rankOf r ≤ rankOf a) × (rankOf r ≤ rankOf b)) × ((r ≡ a) ⊎ (r ≡ b)) ⌝ }
 {
     if quadratic::comes_first(b.value, b.changes, a.value, a.changes) {
@@ -470,7 +470,7 @@ fn lesser_rank(a: Rank, b: Rank) -> Rank
 // The less of best and of p at v, where v lies in [x, y]; else best.
 fn lesser_at(best: Rank, p: Packed, v: u64, x: u64, y: u64) -> Rank
     requires { ⌜ Small (quad p) × ((u : ℕ) → x ≤ u → u ≤ y → down (quad p) u ≤ up (quad p) u) ⌝ }
-    requires { ⌜ (y < 262144) × (best .changes ≤ few) ⌝ }
+    requires { ⌜ (y < 262144) × (best .changes ≤ countLimit) ⌝ }
     ensures { λ r. ⌜ LessAt best (quad p) v x y r ⌝ }
 {
     if v < x {
@@ -491,7 +491,7 @@ fn lesser_at(best: Rank, p: Packed, v: u64, x: u64, y: u64) -> Rank
 // that its next least value stands beside its least.
 fn lower_two(best: Two, p: Packed, a: u64, e: u64, base: u64) -> Two
     requires { ⌜ Small (quad p) × ((v : ℕ) → base + a ≤ v → v ≤ base + e → down (quad p) v ≤ up (quad p) v) ⌝ }
-    requires { ⌜ (a ≤ e) × ((0 < base) × ((base + e < 262144) × ((best .changes ≤ few) × (best .secondchanges ≤ few)))) ⌝ }
+    requires { ⌜ (a ≤ e) × ((0 < base) × ((base + e < 262144) × ((best .changes ≤ countLimit) × (best .secondchanges ≤ countLimit)))) ⌝ }
     ensures { λ r. ⌜ TwoLowered best (quad p) a e base r ⌝ }
 {
     let v = quadratic::lowest_min(p, base + a, base + e);
@@ -533,7 +533,7 @@ fn lower_two(best: Two, p: Packed, a: u64, e: u64, base: u64) -> Two
 // The least of f, the lowest level that has it, and the least at the other levels, in one pass; none where there is no other level.
 pub fn two_least(ws: &[u64], f: usize, levels: u64, base: u64) -> Two
     requires { ⌜ Held (now ws) f levels × ((0 < base) × (base + levels ≤ 262144)) ⌝ }
-    requires { ⌜ ((j : ℕ) → j < levels → Fine 1048576 18014398509481984 (piece (now ws) f levels j) (base + j)) ⌝ }
+    requires { ⌜ ((j : ℕ) → j < levels → Fine countLimit costLimit (piece (now ws) f levels j) (base + j)) ⌝ }
     ensures { λ r. ⌜ TwoLeast (costs base (piece (now (ws .entry)) f levels)) levels r ⌝ }
 {
     let mut best = Two {
@@ -558,7 +558,7 @@ pub fn two_least(ws: &[u64], f: usize, levels: u64, base: u64) -> Two
 
 // dst: c with k changes at every level.
 pub fn constant(ws: &mut [u64], dst: usize, levels: u64, c: u64, k: u64)
-    requires { ⌜ (dst + 4 * levels ≤ length (now ws)) × (k ≤ few) ⌝ }
+    requires { ⌜ (dst + 4 * levels ≤ length (now ws)) × (k ≤ countLimit) ⌝ }
     ensures { λ r. ⌜ Made (λ (j : ℕ). flat c k) (now (ws .entry)) (now (ws .exit)) dst levels ⌝ }
 {
     constant_to(ws, dst, 0, 0, levels, c, k);
@@ -566,7 +566,7 @@ pub fn constant(ws: &mut [u64], dst: usize, levels: u64, c: u64, k: u64)
 
 // dst: the least of two at every level but the one that has it, where it is the other.
 pub fn constant_but(ws: &mut [u64], dst: usize, levels: u64, two: Two)
-    requires { ⌜ ((dst + 4 * levels ≤ length (now ws)) × (two .level < levels)) × ((two .changes ≤ few) × (two .secondchanges ≤ few)) ⌝ }
+    requires { ⌜ ((dst + 4 * levels ≤ length (now ws)) × (two .level < levels)) × ((two .changes ≤ countLimit) × (two .secondchanges ≤ countLimit)) ⌝ }
     ensures { λ r. ⌜ Made (constantBut two) (now (ws .entry)) (now (ws .exit)) dst levels ⌝ }
 {
     let at = two.level;
@@ -593,8 +593,8 @@ pub fn copy(ws: &mut [u64], f: usize, dst: usize, levels: u64) -> usize
 pub fn value_at(ws: &[u64], f: usize, j: u64, levels: u64, base: u64) -> Rank
     requires { ⌜ Held (now ws) f levels × (base + levels ≤ 262144) ⌝ }
     requires { ⌜ j < levels ⌝ }
-    requires { ⌜ ((i : ℕ) → i < levels → Fine 1048576 18014398509481984 (piece (now ws) f levels i) (base + i)) ⌝ }
-    ensures { λ r. ⌜ (rankOf r ≡ costs base (piece (now (ws .entry)) f levels) j) × (r .changes ≤ few) ⌝ }
+    requires { ⌜ ((i : ℕ) → i < levels → Fine countLimit costLimit (piece (now ws) f levels i) (base + i)) ⌝ }
+    ensures { λ r. ⌜ (rankOf r ≡ costs base (piece (now (ws .entry)) f levels) j) × (r .changes ≤ countLimit) ⌝ }
 {
     let mut i: usize = 0;
     while ws[f + 4 * i] < j {

@@ -7,13 +7,13 @@ use Prim.Native.Nat.{ℕ, _+_, _*_, _-_, _%_, _≤_, _<_}
 use native.Mathlib.Nat.{mul-le-mul}
 use native.Mathlib.Omega.{arith}
 use lib.ListN.{length}
-use Rattle.quadratic.specs.Quad.{Quad, Fine, none, absent}
+use Rattle.quadratic.specs.Quad.{Quad, Fine, none, absent, countLimit, costLimit}
 use Rattle.quadratic.specs.Fine.{quad-eq}
 use Rattle.curve.specs.Pieces.{piece, Built, Formed, Held, Same, Apart, Copyable}
 use Rattle.curve.specs.Lists.{closed, count-le, count-most}
 use Rattle.curve.specs.Lows.{costs}
 use Rattle.curve.specs.Curve.{Curve, Limits, curve-wider, curve-copyable}
-use Rattle.edges.specs.Edge.{most, Sound, Hand, Into, Ready}
+use Rattle.edges.specs.Edge.{Sound, Hand, Into, Ready}
 
 -- a list whose costs are none or below 2^53, with room for 3 changes more
 abbrev pub Listed : List ℕ → ℕ → ℕ → ℕ → Type 0
@@ -22,7 +22,7 @@ Listed ws o L base = Curve 1048573 9007199254740992 base L ws o (costs base (pie
 pub record Valid (ws : List ℕ) (o L base : ℕ) : Type 0 where
   pub some : 0 < L
   pub few : L ≤ 1024
-  pub limits : Limits 1048576 18014398509481984 base L
+  pub limits : Limits countLimit costLimit base L
   pub narrow : base + L ≤ 196608
   pub room : o + 4 * L ≤ length ws
   pub list : Listed ws o L base
@@ -54,10 +54,10 @@ pub never : {A : Type 0} → _≡_ {A = Bool} false true → A
 never e = let z : _≡_ {A = ℕ} 0 1 = cc in absurd (omega arith)
 
 -- the products of numbers in these ranges
-pub products : (a z c v k : ℕ) → (a + k ≤ 1048573) × ((z ≤ 549755813888) × (c ≤ 1152921504606846976)) → v < 262144 → (a * v ≤ 1048576 * 262143) × ((v * v ≤ 262143 * 262143) × ((a * (v * v) ≤ 1048576 * (262143 * 262143)) × (z * v ≤ 549755813888 * 262143)))
+pub products : (a z c v k : ℕ) → (a + k ≤ 1048573) × ((z ≤ 549755813888) × (c ≤ 1152921504606846976)) → v < 262144 → (a * v ≤ countLimit * 262143) × ((v * v ≤ 262143 * 262143) × ((a * (v * v) ≤ countLimit * (262143 * 262143)) × (z * v ≤ 549755813888 * 262143)))
 products a z c v k h g =
     let w : v ≤ 262143 = omega arith in
-    let u : a ≤ 1048576 = omega arith in
+    let u : a ≤ countLimit = omega arith in
     let vv = mul-le-mul w w in
     (mul-le-mul u w, (vv, (mul-le-mul u vv, mul-le-mul (h .1 .0) w)))
 
@@ -73,8 +73,8 @@ passed false e = never (sym e)
 pub within : {ws : List ℕ} {o L base : ℕ} → Valid ws o L base → Limits 1048573 9007199254740992 base L
 within v = record { readings = omega arith; cost = omega arith; low = v .limits .low; high = v .limits .high }
 
-pub sound : {ws : List ℕ} {o L base : ℕ} → Valid ws o L base → Sound most 18014398509481984 base L ws o
-sound v = curve-wider 1048576 18014398509481984 (omega arith) (omega arith) (v .list)
+pub sound : {ws : List ℕ} {o L base : ℕ} → Valid ws o L base → Sound countLimit costLimit base L ws o
+sound v = curve-wider countLimit costLimit (omega arith) (omega arith) (v .list)
 
 pub copyable : {ws : List ℕ} {o L base : ℕ} → Valid ws o L base → (dst : ℕ) → Apart o dst (4 * L) → dst + 4 * L ≤ length ws → Copyable ws o dst L
 copyable v dst a r =
@@ -94,7 +94,7 @@ ready {pen = pen} s a v n w p = record {
   some = v .some;
   limits = v .limits;
   so-far = sound a;
-  from = curve-wider 1048575 (18014398509481984 - pen) (omega arith) (omega arith) (v .list);
+  from = curve-wider (countLimit - 1) (costLimit - pen) (omega arith) (omega arith) (v .list);
 }
 
 -- ---- products that do not wrap

@@ -10,7 +10,7 @@ use lib.ListN.{length}
 use borrow.Author.Tests.{le-leb, lt-leb, lt-ltb, le-ltb}
 use Rattle.integers.specs.Rep.{le-or-lt}
 use Rattle.integers.specs.Pairs.{unit, lex}
-use Rattle.quadratic.specs.Quad.{better, raised, pushed, flat, none, noValue}
+use Rattle.quadratic.specs.Quad.{better, raised, pushed, flat, none, noValue, countLimit, costLimit}
 use Rattle.quadratic.specs.Fine.{pickN, far}
 use Rattle.curve.specs.declared.Two.{Two}
 use Rattle.curve.specs.Pieces.{piece, noneOnly, Made, shiftOf, mirrorOf, constantBut}
@@ -22,7 +22,7 @@ use Rattle.model.specs.Index.{noCost, prefixMin, suffixMin, upMin, downMin, edg
 use Rattle.model.specs.Model.{changeOf}
 use Rattle.model.specs.Held.{raise}
 use Rattle.edges.proofs.Others.{any-inside, least-most, least-curve, others-curve, least-seen}
-use Rattle.edges.specs.Edge.{most, Into, Joint, Sound, Ready, Moved, StandsFor, Joined, Taken, WithLoss, kept-off, spared-refl, spared-then, spared-curve, spared-swap, apart-swap, hand-swap, min-regroup, raise-min, raise-none, less-min, plus-raise, lowest-prefix}
+use Rattle.edges.specs.Edge.{Into, Joint, Sound, Ready, Moved, StandsFor, Joined, Taken, WithLoss, kept-off, spared-refl, spared-then, spared-curve, spared-swap, apart-swap, hand-swap, min-regroup, raise-min, raise-none, less-min, plus-raise, lowest-prefix}
 
 pub lower-limits : {A B base L : ℕ} (D C : ℕ) → D ≤ A → C ≤ B → Limits A B base L → Limits D C base L
 lower-limits D C g h l = record { readings = omega (arith, l .readings); cost = omega (arith, l .cost); low = l .low; high = l .high }
@@ -92,8 +92,8 @@ joined {pen = pen} {ch} h m = record {
 -- ---- an edge: moved, then joined
 module _ {pen base L f acc next work : ℕ} {ws : List ℕ} (y : Ready acc next work f pen base L ws) where
   -- the list at f, the penalty aside
-  pub ready-from : Sound most 18014398509481984 base L ws f
-  ready-from = curve-costs (curve-wider most 18014398509481984 (omega arith) (omega arith) (y .from))
+  pub ready-from : Sound countLimit costLimit base L ws f
+  ready-from = curve-costs (curve-wider countLimit costLimit (omega arith) (omega arith) (y .from))
 
   pub ready-stay : Joint acc next f L (length ws)
   ready-stay = record { acc-next = y .hand .acc-next; g-next = y .hand .into .f-next; room-next = y .hand .into .room-next }
@@ -134,10 +134,10 @@ module _ {pen base L f acc next work : ℕ} {ws : List ℕ} (y : Ready acc next 
     pub stands-joint : Joint acc next work L (length w1)
     stands-joint = record { acc-next = y .hand .acc-next; g-next = apart-swap next work (4 * L) (y .hand .into .next-work); room-next = omega (arith, y .hand .into .room-next, m .spared .size) }
 
-    pub stands-acc : Sound most 18014398509481984 base L w1 acc
+    pub stands-acc : Sound countLimit costLimit base L w1 acc
     stands-acc = curve-costs (acc-moved (y .so-far))
 
-    pub stands-work : Sound (most - 1) (18014398509481984 - pen) base L w1 work
+    pub stands-work : Sound (countLimit - 1) (costLimit - pen) base L w1 work
     stands-work = curve-costs (m .curve _ _ _ _ _ _ (y .limits) (omega arith) (omega (arith, y .low)) (y .so-far) (y .from) .1 .0)
 
     pub stands-taken : {w2 : List ℕ} → Joined pen 1 base L w1 w2 work acc next → Taken E pen 1 base L ws w2 f acc next work next

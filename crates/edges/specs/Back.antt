@@ -8,9 +8,10 @@ use native.Mathlib.Omega.{arith}
 use lib.Dec.{ltb}
 use borrow.Author.Tests.{lt-ltb, le-ltb}
 use Rattle.integers.specs.Rep.{le-or-lt}
+use Rattle.quadratic.specs.Quad.{countLimit}
 use Rattle.curve.specs.declared.Low.{Low}
 use Rattle.curve.specs.Pieces.{piece}
-use Rattle.curve.specs.Lows.{few, topCost, lowOf, costs, noLow, Least, LeastIn}
+use Rattle.curve.specs.Lows.{topCost, lowOf, costs, noLow, Least, LeastIn}
 use Rattle.curve.specs.Curve.{Curve, Limits}
 use Rattle.plan.specs.declared.Kind.{Kind}
 use Rattle.model.specs.Index.{noCost, edgeMin, Permitted, edge-min-is, edge-min-none}
@@ -30,7 +31,7 @@ pub record Met (P : ℕ → Type 0) (L : ℕ) (F : ℕ → ℕ) (r : Low) : Type
 pub record LeastOf (P : ℕ → Type 0) (L : ℕ) (F : ℕ → ℕ) (r : Low) : Type 0 where
   pub least : (i : ℕ) → i < L → P i → lowOf r ≤ F i
   pub met : (r ≡ noLow) ⊎ Met P L F r
-  pub changes : r .changes ≤ few
+  pub changes : r .changes ≤ countLimit
   pub high : r .value ≤ topCost
 
 -- what the step back needs: the edge's cost, and the level that it is taken from

@@ -13,7 +13,7 @@ use borrow.Author.Tests.{le-leb, lt-leb, lt-ltb, le-ltb, eq-eqb, ne-eqb}
 use lib.IntN.{ℤ, pos, _+ℤ_}
 use Rattle.integers.specs.Rep.{le-or-lt, iz, nz, _⊕_, eqN, eqZ}
 use Rattle.integers.specs.Pairs.{unit, lex}
-use Rattle.quadratic.specs.Quad.{noValue}
+use Rattle.quadratic.specs.Quad.{noValue, countLimit, costLimit}
 use Rattle.quadratic.specs.Fine.{pickN, plus, far, far-signed, square-most}
 use Rattle.curve.specs.Pieces.{piece, Kept, Same, Apart}
 use Rattle.curve.specs.Lists.{kept-same, count-most}
@@ -22,10 +22,6 @@ use Rattle.curve.specs.Curve.{Curve, Limits, less, curve-same, curve-costs, cur
 use Rattle.model.specs.Index.{noCost, prefixMin, suffixMin, upMin, downMin, edgeMin}
 use Rattle.model.specs.Held.{raise}
 use Rattle.model.specs.Model.{square, lossAt}
-
--- the most readings and changes of a list
-abbrev pub most : ℕ
-most = 1048576
 
 -- a list that may be taken: at most A readings and changes, its costs none or less than B
 abbrev pub Sound : ℕ → ℕ → ℕ → ℕ → List ℕ → ℕ → Type 0
@@ -69,11 +65,11 @@ pub record Hand (acc next work f L size : ℕ) : Type 0 where
 -- what is asked for an edge from the list at f: there is room for the penalty and for one change
 pub record Ready (acc next work f pen base L : ℕ) (ws : List ℕ) : Type 0 where
   pub hand : Hand acc next work f L (length ws)
-  pub low : pen ≤ 18014398509481984
+  pub low : pen ≤ costLimit
   pub some : 0 < L
-  pub limits : Limits most 18014398509481984 base L
-  pub so-far : Sound most 18014398509481984 base L ws acc
-  pub from : Sound (most - 1) (18014398509481984 - pen) base L ws f
+  pub limits : Limits countLimit costLimit base L
+  pub so-far : Sound countLimit costLimit base L ws acc
+  pub from : Sound (countLimit - 1) (costLimit - pen) base L ws f
 
 -- ---- the contracts
 

@@ -19,11 +19,12 @@ ghost use Rattle.plan.specs.declared.Kind.the-variants.{Any};
 ghost use Rattle.plan.specs.Build.{gapOf};
 ghost use Rattle.model.specs.Model.{changeOf};
 ghost use Rattle.model.specs.Index.{upMin, downMin, edgeMin, Permitted};
+ghost use Rattle.quadratic.specs.Quad.{countLimit, costLimit};
 ghost use Rattle.curve.specs.Pieces.{piece, Apart};
-ghost use Rattle.curve.specs.Lows.{few, topCost, lowOf, costs, noLow};
+ghost use Rattle.curve.specs.Lows.{topCost, lowOf, costs, noLow};
 ghost use Rattle.curve.specs.Curve.{Limits};
 ghost use Rattle.edges.specs.Back.{LeastOf, pickLow};
-ghost use Rattle.edges.specs.Edge.{most, Into, Joint, Sound, Ready, Moved, StandsFor, Joined, Taken, WithLoss};
+ghost use Rattle.edges.specs.Edge.{Into, Joint, Sound, Ready, Moved, StandsFor, Joined, Taken, WithLoss};
 
 // work: at each level the least of f at the other levels. That is the least of all, but at a level that has it: there it is the second least. It
 // is left out where it cannot be seen: where the least so far comes there no later than the least with pen and one change. So it is where a stay
@@ -58,7 +59,7 @@ fn any_into(
 // work: at each level the least of f at the levels at least gap below.
 fn up_into(ws: &mut [u64], f: usize, gap: u64, next: usize, work: usize, levels: u64, base: u64)
     requires { ⌜ Into f next work levels (length (now ws)) × (gap < 1024) ⌝ }
-    requires { ⌜ Limits most 18014398509481984 base levels × Sound most 18014398509481984 base levels (now ws) f ⌝ }
+    requires { ⌜ Limits countLimit costLimit base levels × Sound countLimit costLimit base levels (now ws) f ⌝ }
     ensures { λ r. ⌜ Moved (upMin gap) base levels (now (ws .entry)) (now (ws .exit)) f next work ⌝ }
 {
     curve::running_min(ws, f, next, levels, base);
@@ -68,7 +69,7 @@ fn up_into(ws: &mut [u64], f: usize, gap: u64, next: usize, work: usize, levels:
 // work: at each level the least of f at the levels at least gap above, which is the same in the mirror.
 fn down_into(ws: &mut [u64], f: usize, gap: u64, next: usize, work: usize, levels: u64, base: u64)
     requires { ⌜ Into f next work levels (length (now ws)) × (gap < 1024) ⌝ }
-    requires { ⌜ Limits most 18014398509481984 base levels × Sound most 18014398509481984 base levels (now ws) f ⌝ }
+    requires { ⌜ Limits countLimit costLimit base levels × Sound countLimit costLimit base levels (now ws) f ⌝ }
     ensures { λ r. ⌜ Moved (downMin levels gap) base levels (now (ws .entry)) (now (ws .exit)) f next work ⌝ }
 {
     curve::mirror(ws, f, next, levels, base);
@@ -88,9 +89,9 @@ fn take(
     levels: u64,
     base: u64,
 )
-    requires { ⌜ Joint acc next g levels (length (now ws)) × ((pen ≤ 18014398509481984) × (ch ≤ 1)) ⌝ }
-    requires { ⌜ Limits most 18014398509481984 base levels ⌝ }
-    requires { ⌜ Sound most 18014398509481984 base levels (now ws) acc × Sound (most - 1) (18014398509481984 - pen) base levels (now ws) g ⌝ }
+    requires { ⌜ Joint acc next g levels (length (now ws)) × ((pen ≤ costLimit) × (ch ≤ 1)) ⌝ }
+    requires { ⌜ Limits countLimit costLimit base levels ⌝ }
+    requires { ⌜ Sound countLimit costLimit base levels (now ws) acc × Sound (countLimit - 1) (costLimit - pen) base levels (now ws) g ⌝ }
     ensures { λ r. ⌜ Joined pen ch base levels (now (ws .entry)) (now (ws .exit)) g acc next ⌝ }
 {
     curve::least_of_two(ws, acc, g, pen, ch, next, levels, base);
@@ -203,7 +204,7 @@ pub fn take_edge(
 pub fn add_reading(ws: &mut [u64], f: usize, u: u64, w: u64, dst: usize, levels: u64, base: u64)
     requires { ⌜ Apart f dst (4 * levels) × (dst + 4 * levels ≤ length (now ws)) ⌝ }
     requires { ⌜ ((131072 ≤ u) × (u < 196608)) × ((w < 256) × (base + levels ≤ 196608)) ⌝ }
-    requires { ⌜ Limits most 18014398509481984 base levels × Sound most 18014398509481984 base levels (now ws) f ⌝ }
+    requires { ⌜ Limits countLimit costLimit base levels × Sound countLimit costLimit base levels (now ws) f ⌝ }
     ensures { λ r. ⌜ WithLoss w u base levels (now (ws .entry)) (now (ws .exit)) f dst ⌝ }
 {
     curve::add_loss(ws, f, u, w, dst, levels);
@@ -211,7 +212,7 @@ pub fn add_reading(ws: &mut [u64], f: usize, u: u64, w: u64, dst: usize, levels:
 
 // The lower of two, the first where they are equal.
 fn lower_of(a: Low, b: Low) -> Low
-    requires { ⌜ (a .changes ≤ few) × ((b .changes ≤ few) × (b .value ≤ topCost)) ⌝ }
+    requires { ⌜ (a .changes ≤ countLimit) × ((b .changes ≤ countLimit) × (b .value ≤ topCost)) ⌝ }
     ensures { λ r. ⌜ r ≡ pickLow (ltb (lowOf b) (lowOf a)) b a ⌝ }
 {
     if quadratic::comes_first(b.value, b.changes, a.value, a.changes) {
@@ -234,7 +235,7 @@ fn no_low() -> Low
 
 // The least of f at the levels at least gap below j, with the lowest of them that has it.
 fn least_below(ws: &[u64], f: usize, gap: u64, j: u64, levels: u64, base: u64) -> Low
-    requires { ⌜ Limits most 18014398509481984 base levels × Sound most 18014398509481984 base levels (now ws) f ⌝ }
+    requires { ⌜ Limits countLimit costLimit base levels × Sound countLimit costLimit base levels (now ws) f ⌝ }
     requires { ⌜ j < levels ⌝ }
     ensures { λ r. ⌜ LeastOf (λ (i : ℕ). i + gap ≤ j) levels (costs base (piece (now (ws .entry)) f levels)) r ⌝ }
 {
@@ -247,7 +248,7 @@ fn least_below(ws: &[u64], f: usize, gap: u64, j: u64, levels: u64, base: u64) -
 
 // The least of f at the levels at least gap above j, with the lowest of them that has it.
 fn least_above(ws: &[u64], f: usize, gap: u64, j: u64, levels: u64, base: u64) -> Low
-    requires { ⌜ Limits most 18014398509481984 base levels × Sound most 18014398509481984 base levels (now ws) f ⌝ }
+    requires { ⌜ Limits countLimit costLimit base levels × Sound countLimit costLimit base levels (now ws) f ⌝ }
     requires { ⌜ (j < levels) × (gap < 1024) ⌝ }
     ensures { λ r. ⌜ LeastOf (λ (i : ℕ). j + gap ≤ i) levels (costs base (piece (now (ws .entry)) f levels)) r ⌝ }
 {
@@ -256,7 +257,7 @@ fn least_above(ws: &[u64], f: usize, gap: u64, j: u64, levels: u64, base: u64) -
 
 // The least of f at the levels at least gap from j, with the lowest of them that has it.
 fn least_beside(ws: &[u64], f: usize, gap: u64, j: u64, levels: u64, base: u64) -> Low
-    requires { ⌜ Limits most 18014398509481984 base levels × Sound most 18014398509481984 base levels (now ws) f ⌝ }
+    requires { ⌜ Limits countLimit costLimit base levels × Sound countLimit costLimit base levels (now ws) f ⌝ }
     requires { ⌜ (j < levels) × (gap < 1024) ⌝ }
     ensures { λ r. ⌜ LeastOf (λ (i : ℕ). (i + gap ≤ j) ⊎ (j + gap ≤ i)) levels (costs base (piece (now (ws .entry)) f levels)) r ⌝ }
 {
@@ -268,7 +269,7 @@ fn least_beside(ws: &[u64], f: usize, gap: u64, j: u64, levels: u64, base: u64) 
 // The least of f at the levels from which an edge of the kind leads to level j, with the lowest of them that has it;
 // none, or more, where there is no cost.
 pub fn least_before(ws: &[u64], f: usize, kind: Kind, j: u64, levels: u64, base: u64) -> Low
-    requires { ⌜ Limits most 18014398509481984 base levels × Sound most 18014398509481984 base levels (now ws) f ⌝ }
+    requires { ⌜ Limits countLimit costLimit base levels × Sound countLimit costLimit base levels (now ws) f ⌝ }
     requires { ⌜ (j < levels) × (gapOf kind ≤ 1023) ⌝ }
     ensures { λ r. ⌜ LeastOf (λ (i : ℕ). Permitted kind i j) levels (costs base (piece (now (ws .entry)) f levels)) r ⌝ }
 {

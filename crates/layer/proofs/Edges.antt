@@ -15,10 +15,11 @@ use Rattle.model.specs.Labels.{countBefore}
 use Rattle.model.specs.Index.{noCost}
 use Rattle.model.specs.Held.{penaltyMost, penalty-most, Table, minBelow}
 use Rattle.labels.specs.Boundary.{leadsFrom}
+use Rattle.quadratic.specs.Quad.{countLimit, costLimit}
 use Rattle.curve.specs.Pieces.{piece}
 use Rattle.curve.specs.Lows.{costs}
 use Rattle.curve.specs.Curve.{Curve, Limits, curve-as, curve-most, curve-costs, curve-wider}
-use Rattle.edges.specs.Edge.{most, Hand, Order, Sound, spared-refl, spared-then, spared-curve, spared-order, hand-order, order-other, order-place}
+use Rattle.edges.specs.Edge.{Hand, Order, Sound, spared-refl, spared-then, spared-curve, spared-order, hand-order, order-other, order-place}
 use Rattle.layer.specs.declared.Shape.{Shape}
 use Rattle.layer.specs.Layer.{placeMost, listAt, fromPlace}
 use Rattle.layer.specs.Step.{sourceOf, offered, edgeOf, leastOffered, MayTake, TookOne, EdgesReady, TookEdges}
@@ -64,10 +65,10 @@ module _ (o : Option Label) (t : ℕ) (es : List Edge) (k s cur moved : ℕ) (g 
     abbrev from : ℕ
     from = fromPlace (changeOf (edgeOf es i .kind)) cur moved
 
-    acc-sound : Sound most 18014398509481984 (g .base) (g .levels) ws′ r
+    acc-sound : Sound countLimit costLimit (g .base) (g .levels) ws′ r
     acc-sound =
         curve-costs
-        (m .curve most 18014398509481984 (18014398509481984 - penaltyMost) (most - 1) _ kept-costs (a .limits) (omega arith) (omega arith) (a .so-far) (λ e he l. a .sound e (omega arith) l))
+        (m .curve countLimit costLimit (costLimit - penaltyMost) (countLimit - 1) _ kept-costs (a .limits) (omega arith) (omega arith) (a .so-far) (λ e he l. a .sound e (omega arith) l))
 
     pub may-take : MayTake o t (edgeOf es i) k s from g r (first + second - r) work ws′
     may-take = record {
@@ -85,7 +86,7 @@ module _ (o : Option Label) (t : ℕ) (es : List Edge) (k s cur moved : ℕ) (g 
         some = a .some;
         limits = a .limits;
         so-far = acc-sound;
-        from = curve-costs (curve-wider (most - 1) (18014398509481984 - penalty (edgeOf es i .class)) (omega arith) (omega (arith, penalty-most (edgeOf es i .class))) (source-kept i h l (a .sound i h l)));
+        from = curve-costs (curve-wider (countLimit - 1) (costLimit - penalty (edgeOf es i .class)) (omega arith) (omega (arith, penalty-most (edgeOf es i .class))) (source-kept i h l (a .sound i h l)));
       };
     }
 

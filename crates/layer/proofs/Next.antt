@@ -29,12 +29,12 @@ use Rattle.model.specs.Held.{raise, penaltyMost, Table, minBelow, min-none, byE
 use Rattle.model.specs.Ends.{lossMost, losses-low, tableAt}
 use Rattle.labels.specs.Boundary.{leadsFrom, leads-at}
 use Rattle.integers.specs.Pairs.{unit, lex}
-use Rattle.quadratic.specs.Quad.{none, noValue, flat, absent}
+use Rattle.quadratic.specs.Quad.{none, noValue, flat, absent, countLimit, costLimit}
 use Rattle.quadratic.specs.Fine.{far, square-most}
 use Rattle.curve.specs.Pieces.{Kept, Made, Apart}
 use Rattle.curve.specs.Lows.{levelled-is}
 use Rattle.curve.specs.Curve.{Curve, Limits, Bounded, curve-as, curve-kept, curve-costs, curve-wider, curve-flat, near}
-use Rattle.edges.specs.Edge.{most, Hand, Spared, Sound, Off, WithLoss, loss-place}
+use Rattle.edges.specs.Edge.{Hand, Spared, Sound, Off, WithLoss, loss-place}
 use Rattle.layer.specs.declared.Shape.{Shape}
 use Rattle.layer.specs.Layer.{tempWords, readingMost, countMost, baseOf, listAt, layerWords, Shape-small, ShapeOf, fromPlace, LayerOf, Sources}
 use Rattle.layer.specs.Step.{sourceOf, offered, offered-by, edgeOf, leastOffered, EdgesReady, TookEdges}
@@ -102,7 +102,7 @@ module _ {P : Plan} {zs : List ℤ} {g : Shape} (a : Task P zs g) where
   pub shape-small : Shape-small g
   shape-small = record { states = omega (arith, a .shape .states, a .ready .plan .few-states); levels = omega (arith, a .shape .levels, a .ready .plan .narrow) }
 
-  pub limits : (A B : ℕ) → A ≤ 1048576 → B ≤ 18014398509481984 → Limits A B (g .base) (g .levels)
+  pub limits : (A B : ℕ) → A ≤ countLimit → B ≤ costLimit → Limits A B (g .base) (g .levels)
   limits A B h k = record { readings = h; cost = k; low = omega (arith, a .shape .base, places-from); high = omega (arith, a .shape .base, a .shape .levels, places-to) }
 
   -- a count that is used
@@ -164,7 +164,7 @@ module _ {P : Plan} {zs : List ℤ} {o : Option Label} {t cur moved dst free k s
       let w = list-within (place e) (P .states) (width P) (countBefore o t (edgeAt P e .kind) k) (edgeAt P e .from) (before-low e l) (a .task .ready .plan .edge e h .from-below) in
       rw (a .task .shape .states, a .task .shape .levels) (omega (arith, w, place-below e))
 
-  most-cost : t * readingMost ≤ 18014398509481984 - penaltyMost
+  most-cost : t * readingMost ≤ costLimit - penaltyMost
   most-cost = omega (arith, mul-le-mul-right readingMost few)
 
   module _ (T : ℕ → Table) (m : Sources P t T ws cur moved) where
@@ -193,7 +193,7 @@ module _ {P : Plan} {zs : List ℤ} {o : Option Label} {t cur moved dst free k s
       count = a .count;
       place = omega (arith, a .below, a .place);
       place-moved = omega (arith, a .moved-below, a .place);
-      limits = limits (a .task) most 18014398509481984 (omega arith) (omega arith);
+      limits = limits (a .task) countLimit costLimit (omega arith) (omega arith);
       few = a .task .ready .plan .few-edges;
       some = some-levels (a .task);
       so-far = curve-costs acc-none;
@@ -207,7 +207,7 @@ module _ {P : Plan} {zs : List ℤ} {o : Option Label} {t cur moved dst free k s
         f-acc = inl b;
         room-acc = omega (arith, room-now);
       };
-      sound = λ e h l. curve-costs (curve-wider (most - 1) (18014398509481984 - penaltyMost) (omega (arith, few)) most-cost (source-kept (a .tables) (a .sources) m1 e h l));
+      sound = λ e h l. curve-costs (curve-wider (countLimit - 1) (costLimit - penaltyMost) (omega (arith, few)) most-cost (source-kept (a .tables) (a .sources) m1 e h l));
     }
 
     module _ {w2 : List ℕ} {r : ℕ} (m2 : TookEdges o t (P .edges) (P .edgecount) k s cur moved g w1 w2 free (free + size) (free + 2 * size) r) where
@@ -224,13 +224,13 @@ module _ {P : Plan} {zs : List ℤ} {o : Option Label} {t cur moved dst free k s
       dst-room : dst + 4 * g .levels ≤ length w2
       dst-room = omega (arith, a .under, a .task .shape .levels, a .room, m1 .kept .size, m2 .spared .size)
 
-      acc-sound : Sound most 18014398509481984 (g .base) (g .levels) w2 r
-      acc-sound = curve-costs (curve-wider most 18014398509481984 (omega (arith, few)) (omega (arith, most-cost)) (acc-least (a .tables) (a .sources)))
+      acc-sound : Sound countLimit costLimit (g .base) (g .levels) w2 r
+      acc-sound = curve-costs (curve-wider countLimit costLimit (omega (arith, few)) (omega (arith, most-cost)) (acc-least (a .tables) (a .sources)))
 
       pub reading-ready : {u : ℕ} → (131072 ≤ u) × (u < 196608)
-          → ((Apart r dst (4 * g .levels) × (dst + 4 * g .levels ≤ length w2)) × ((((131072 ≤ u) × (u < 196608)) × ((1 < 256) × (g .base + g .levels ≤ 196608))) × (Limits most 18014398509481984 (g .base) (g .levels) × Sound most 18014398509481984 (g .base) (g .levels) w2 r)))
+          → ((Apart r dst (4 * g .levels) × (dst + 4 * g .levels ≤ length w2)) × ((((131072 ≤ u) × (u < 196608)) × ((1 < 256) × (g .base + g .levels ≤ 196608))) × (Limits countLimit costLimit (g .base) (g .levels) × Sound countLimit costLimit (g .base) (g .levels) w2 r)))
       reading-ready h =
-          ((dst-apart, dst-room), ((h, (omega arith, omega (arith, a .task .shape .base, a .task .shape .levels, places-to (a .task)))), (limits (a .task) most 18014398509481984 (omega arith) (omega arith), acc-sound)))
+          ((dst-apart, dst-room), ((h, (omega arith, omega (arith, a .task .shape .base, a .task .shape .levels, places-to (a .task)))), (limits (a .task) countLimit costLimit (omega arith) (omega arith), acc-sound)))
 
       module _ (u : ℕ) (at : pos u ≡ getD zs t (pos 0) +ℤ pos 163840) {w3 : List ℕ} (m3 : WithLoss 1 u (g .base) (g .levels) w2 w3 r dst) where
         value-is : (T : ℕ → Table) (j : ℕ) → raise (min noValue (leastOffered o t (P .edges) (P .edgecount) k s (g .levels) T j)) (unit * (1 * (far u (g .base + j) * far u (g .base + j)))) ≡ nextFrom P zs t T k s j
@@ -297,10 +297,10 @@ module _ {P : Plan} {zs : List ℤ} {dst free k s : ℕ} {g : Shape} {ws : List 
       go false e = inl (omega arith)
 
   pub first-ready : {u : ℕ} → (131072 ≤ u) × (u < 196608)
-      → ((Apart free dst (4 * g .levels) × (dst + 4 * g .levels ≤ length w1)) × ((((131072 ≤ u) × (u < 196608)) × ((1 < 256) × (g .base + g .levels ≤ 196608))) × (Limits most 18014398509481984 (g .base) (g .levels) × Sound most 18014398509481984 (g .base) (g .levels) w1 free)))
+      → ((Apart free dst (4 * g .levels) × (dst + 4 * g .levels ≤ length w1)) × ((((131072 ≤ u) × (u < 196608)) × ((1 < 256) × (g .base + g .levels ≤ 196608))) × (Limits countLimit costLimit (g .base) (g .levels) × Sound countLimit costLimit (g .base) (g .levels) w1 free)))
   first-ready h = (
     (inr (omega (arith, a .under, a .task .shape .levels)), omega (arith, a .under, a .room, a .task .shape .levels, m1 .kept .size)),
-    ((h, (omega arith, omega (arith, a .task .shape .base, a .task .shape .levels, places-to (a .task)))), (limits (a .task) most 18014398509481984 (omega arith) (omega arith), curve-costs (curve-wider most 18014398509481984 (omega arith) (omega arith) acc-first))),
+    ((h, (omega arith, omega (arith, a .task .shape .base, a .task .shape .levels, places-to (a .task)))), (limits (a .task) countLimit costLimit (omega arith) (omega arith), curve-costs (curve-wider countLimit costLimit (omega arith) (omega arith) acc-first))),
   )
 
   module _ (u : ℕ) (at : pos u ≡ getD zs 0 (pos 0) +ℤ pos 163840) {w2 : List ℕ} (m2 : WithLoss 1 u (g .base) (g .levels) w1 w2 free dst) where

@@ -16,8 +16,9 @@ use Rattle.model.specs.Held.{fromCount}
 use Rattle.model.specs.Index.{noCost, edgeMin}
 use Rattle.model.specs.Held.{raise, penaltyMost, Table, leadsAt, byEdge, minBelow}
 use Rattle.labels.specs.Boundary.{leadsFrom, leads-at}
+use Rattle.quadratic.specs.Quad.{countLimit, costLimit}
 use Rattle.curve.specs.Curve.{Curve, Limits}
-use Rattle.edges.specs.Edge.{most, Ready, OneOf, Spared, Hand, Sound}
+use Rattle.edges.specs.Edge.{Ready, OneOf, Spared, Hand, Sound}
 use Rattle.layer.specs.declared.Shape.{Shape}
 use Rattle.layer.specs.Layer.{Shape-small, placeMost, listAt, fromPlace}
 
@@ -44,7 +45,7 @@ pub record MayTake (o : Option Label) (t : ℕ) (x : Edge) (k s cur : ℕ) (g : 
   pub boundary : t < 65536
   pub count : k < counts
   pub place : cur ≤ placeMost
-  pub limits : Limits most 18014398509481984 (g .base) (g .levels)
+  pub limits : Limits countLimit costLimit (g .base) (g .levels)
   pub before : leadsFrom o t x k s ≡ true → countBefore o t (x .kind) k < counts
   pub from : x .from < 8
   pub gap : gapOf (x .kind) ≤ 1023
@@ -74,15 +75,15 @@ pub record EdgesReady (o : Option Label) (t : ℕ) (es : List Edge) (n k s cur m
   pub count : k < counts
   pub place : cur ≤ placeMost
   pub place-moved : moved ≤ placeMost
-  pub limits : Limits most 18014398509481984 (g .base) (g .levels)
+  pub limits : Limits countLimit costLimit (g .base) (g .levels)
   pub few : n ≤ 32
   pub some : 0 < g .levels
-  pub so-far : Sound most 18014398509481984 (g .base) (g .levels) ws first
+  pub so-far : Sound countLimit costLimit (g .base) (g .levels) ws first
   pub from : (e : ℕ) → e < n → edgeOf es e .from < 8
   pub gap : (e : ℕ) → e < n → gapOf (edgeOf es e .kind) ≤ 1023
   pub before : (e : ℕ) → e < n → leadsFrom o t (edgeOf es e) k s ≡ true → countBefore o t (edgeOf es e .kind) k < counts
   pub hand : (e : ℕ) → e < n → leadsFrom o t (edgeOf es e) k s ≡ true → Hand first second work (sourceOf o t (edgeOf es e) k cur moved g) (g .levels) (length ws)
-  pub sound : (e : ℕ) → e < n → leadsFrom o t (edgeOf es e) k s ≡ true → Sound (most - 1) (18014398509481984 - penaltyMost) (g .base) (g .levels) ws (sourceOf o t (edgeOf es e) k cur moved g)
+  pub sound : (e : ℕ) → e < n → leadsFrom o t (edgeOf es e) k s ≡ true → Sound (countLimit - 1) (costLimit - penaltyMost) (g .base) (g .levels) ws (sourceOf o t (edgeOf es e) k cur moved g)
 
 -- the least over the first n edges stands at r
 pub record TookEdges (o : Option Label) (t : ℕ) (es : List Edge) (n k s cur moved : ℕ) (g : Shape) (ws ws′ : List ℕ) (first second work r : ℕ) : Type 0 where

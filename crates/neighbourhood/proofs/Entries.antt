@@ -16,8 +16,7 @@ use Rattle.model.specs.Labels.{labelOn, used-some}
 use Rattle.model.specs.Refusals.{searchNumber}
 use Rattle.model.specs.Checked.{built-search}
 use Rattle.integers.specs.Pairs.{unit}
-use Rattle.quadratic.specs.Quad.{none}
-use Rattle.curve.specs.Lows.{few}
+use Rattle.quadratic.specs.Quad.{none, countLimit}
 use Rattle.model.specs.Index.{reported, reported-some, reported-none}
 use Rattle.model.specs.Held.{Table, Holding}
 use Rattle.model.specs.Ends.{tableAt, leastEndAt}
@@ -45,7 +44,7 @@ use Rattle.neighbourhood.proofs.Slots.{slot-layer}
 -- ---- one entry
 
 -- the cheapest end of a layer as an entry
-module _ {P : Plan} {H : Table} {r : End} (few-changes : r .changes ≤ few) (m : EndTo P H (P .states) r) where
+module _ {P : Plan} {H : Table} {r : End} (few-changes : r .changes ≤ countLimit) (m : EndTo P H (P .states) r) where
   pub least-is : endOf r ≡ leastEndAt P H
   unfolding leastEndAt
   least-is = m .is

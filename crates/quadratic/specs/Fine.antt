@@ -10,7 +10,7 @@ use borrow.Author.Tests.{eq-eqb, ne-eqb, le-leb, lt-leb, lt-ltb, le-ltb}
 use lib.IntN.{ℤ, pos, negsuc, natAbs, _+ℤ_, _-ℤ_}
 use Rattle.integers.specs.Rep.{le-or-lt, iz, nz, _⊕_, _⊖_, eqN, above, below}
 use Rattle.integers.specs.Pairs.{unit, lex}
-use Rattle.quadratic.specs.Quad.{Quad, up, down, cost, value, none, noValue, flat, absent, Small, Sized, Fine, pick, raised, pushed, moved, mirrored, late, better}
+use Rattle.quadratic.specs.Quad.{Quad, up, down, cost, value, none, noValue, flat, absent, Small, Sized, Fine, pick, raised, pushed, moved, mirrored, late, better, countLimit, costLimit}
 
 mk : ℕ → ℕ → ℕ → ℕ → Quad
 mk a z c k = record { a = a; z = z; c = c; k = k }
@@ -25,8 +25,8 @@ prod≤ a b m n = mul-le-mul
 
 -- the bounds of the whole search
 pub record Bounds (A B v : ℕ) : Type 0 where
-  pub readings : A ≤ 1048576
-  pub cost : B ≤ 18014398509481984
+  pub readings : A ≤ countLimit
+  pub cost : B ≤ costLimit
   pub place : v < 262144
 
 abbrev pub far : ℕ → ℕ → ℕ
@@ -41,11 +41,11 @@ abbrev pub plus : ℕ → ℕ → ℕ
 plus k x = pickN (eqb x noValue) x (x + k)
 
 module _ {A B v : ℕ} (b : Bounds A B v) {q : Quad} (f : Fine A B q v) where
-  av : q .a * v ≤ 1048576 * 262143
-  av = prod≤ (q .a) v 1048576 262143 (omega (arith, f .count, b .readings)) (omega (arith, b .place))
+  av : q .a * v ≤ countLimit * 262143
+  av = prod≤ (q .a) v countLimit 262143 (omega (arith, f .count, b .readings)) (omega (arith, b .place))
 
-  avv : q .a * (v * v) ≤ 1048576 * (262143 * 262143)
-  avv = prod≤ (q .a) (v * v) 1048576 (262143 * 262143) (omega (arith, f .count, b .readings)) (prod≤ v v 262143 262143 (omega (arith, b .place)) (omega (arith, b .place)))
+  avv : q .a * (v * v) ≤ countLimit * (262143 * 262143)
+  avv = prod≤ (q .a) (v * v) countLimit (262143 * 262143) (omega (arith, f .count, b .readings)) (prod≤ v v 262143 262143 (omega (arith, b .place)) (omega (arith, b .place)))
 
   pub fine-sized : Sized q
   fine-sized = record {

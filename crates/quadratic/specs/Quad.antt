@@ -43,19 +43,27 @@ flat x k = record { a = 0; z = 0; c = x; k = k }
 abbrev pub absent : Quad
 absent = flat none 0
 
+-- the most readings, each counted by its weight, and changes that a quadratic may have
+abbrev pub countLimit : ℕ
+countLimit = 1048576
+
+-- costs that are kept are none or less than this
+abbrev pub costLimit : ℕ
+costLimit = 18014398509481984
+
 -- the ranges within which nothing that is computed wraps
 pub record Small (q : Quad) : Type 0 where
-  pub count : q .a ≤ 1048576
+  pub count : q .a ≤ countLimit
   pub sum : q .z ≤ 549755813888
   pub rest : q .c < 2305843009213693952
-  pub few : q .k ≤ 1048576
+  pub few : q .k ≤ countLimit
 
 -- the ranges of those that are kept: there is room for one more
 pub record Sized (q : Quad) : Type 0 where
-  pub count : q .a ≤ 1048576
+  pub count : q .a ≤ countLimit
   pub sum : q .z ≤ 549755813888
   pub rest : q .c ≤ 1152921504606846976
-  pub few : q .k ≤ 1048576
+  pub few : q .k ≤ countLimit
 
 -- what holds of a quadratic at a place where it is in force: no more than A readings and changes, each reading at most 65535 from v; its cost is not
 -- below zero; and it is none, or its cost is less than B

@@ -13,7 +13,7 @@ ghost use lib.IntN.{pos, _-ℤ_};
 ghost use Rattle.integers.specs.Pairs.{unit, lex};
 ghost use Rattle.quadratic.specs.Level.{Placed};
 ghost use Rattle.quadratic.specs.Places.{lowestPlace, lastUnder};
-ghost use Rattle.quadratic.specs.Quad.{quad, Small, Fine, Lowest, Cut, Turns, Stays, Halved, raised, pushed, moved, mirrored, up, down, Under, Over, cost, late};
+ghost use Rattle.quadratic.specs.Quad.{quad, Small, Fine, Lowest, Cut, Turns, Stays, Halved, raised, pushed, moved, mirrored, up, down, Under, Over, cost, late, countLimit};
 
 // The cost of what is not there, 2^60: sums and minima treat it as a number, `raise` and `add_square` leave it.
 pub const NONE: u64 = 1152921504606846976;
@@ -29,7 +29,7 @@ pub struct Packed {
 
 // The two parts of a cost, which is rise less fall.
 fn rise(a: u64, c: u64, v: u64) -> u64
-    requires { ⌜ (a ≤ 1048576) × ((c < 2305843009213693952) × (v < 262144)) ⌝ }
+    requires { ⌜ (a ≤ countLimit) × ((c < 2305843009213693952) × (v < 262144)) ⌝ }
     ensures { λ r. ⌜ (r ≡ a * (v * v) + c) × (r ≤ 2377900603251621888) ⌝ }
 {
     a * (v * v) + c
@@ -118,7 +118,7 @@ fn cut(p: u64, q: u64, d: u64, x: u64, y: u64) -> u64
 
 // The first place of [x, y] at which e v² - 2 (f - g) v is least: its turning point, rounded, the lower one of two that tie.
 fn turning_point(e: u64, f: u64, g: u64, x: u64, y: u64) -> u64
-    requires { ⌜ ((0 < e) × (e ≤ 1048576)) × ((f ≤ 549755813888) × (g ≤ 549755813888)) ⌝ }
+    requires { ⌜ ((0 < e) × (e ≤ countLimit)) × ((f ≤ 549755813888) × (g ≤ 549755813888)) ⌝ }
     requires { ⌜ (x ≤ y) × (y < 262144) ⌝ }
     ensures { λ r. ⌜ Turns e f g x y r ⌝ }
 {
@@ -188,7 +188,7 @@ pub fn crossing(w: Packed, l: Packed, x: u64, y: u64) -> u64
 
 // q with pen more at every level, and ch changes more; none stays none.
 pub fn raise(q: Packed, pen: u64, ch: u64) -> Packed
-    requires { ⌜ Small (quad q) × ((pen ≤ 1152921504606846976) × (ch ≤ 1048576)) ⌝ }
+    requires { ⌜ Small (quad q) × ((pen ≤ 1152921504606846976) × (ch ≤ countLimit)) ⌝ }
     ensures { λ r. ⌜ quad r ≡ raised pen ch (quad q) ⌝ }
 {
     if q.c == NONE {

@@ -19,8 +19,7 @@ use Rattle.model.specs.RunLaws.{numbers-length}
 use Rattle.model.specs.Labels.{labelOn, used-some}
 use Rattle.model.specs.Refusals.{searchNumber}
 use Rattle.model.specs.Result.{Result, found, whole, resultOf}
-use Rattle.quadratic.specs.Quad.{none}
-use Rattle.curve.specs.Lows.{few}
+use Rattle.quadratic.specs.Quad.{none, countLimit}
 use Rattle.model.specs.Held.{Table}
 use Rattle.model.specs.Ends.{tableAt, walk-first, losses-low}
 use Rattle.model.specs.Tables.{Ready, ready-search}
@@ -62,7 +61,7 @@ module _ {P : Plan} {zs : List ℤ} {g : Shape} {ws T ws′ : List ℕ} {w : Wal
   pub may-read : Readable 1 (w .cur) g ws′ × ShapeOf P g
   may-read = (readable-fewer (used-some (labelOn P (length zs))) (layer-readable (a .task) layer-now (place-low (a .task) (m .at)) (a .task .ready .few-readings)), a .task .shape)
 
-  pub reaches : {e : End} → (e .changes ≤ few) × ((H : Table) → Reads 1 (w .cur) g ws′ H → EndTo P H (P .states) e) → Reaches P zs T ws ws′ (record { walk = w; end = e })
+  pub reaches : {e : End} → (e .changes ≤ countLimit) × ((H : Table) → Reads 1 (w .cur) g ws′ H → EndTo P H (P .states) e) → Reaches P zs T ws ws′ (record { walk = w; end = e })
   reaches (h, f) = record { walked = m; changes = h; ends = f (tableAt P zs (length zs)) (reads-fewer (used-some (labelOn P (length zs))) (layer-reads (a .task) layer-now)) }
 
 module _ {P : Plan} {zs : List ℤ} {g : Shape} {ws : List ℕ} {out : List ℤ} (a : Solvable P zs g ws out) {T ws′ : List ℕ} {r : Ended} (m : Reaches P zs T ws ws′ r) where

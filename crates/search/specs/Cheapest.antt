@@ -6,8 +6,7 @@ use native.Mathlib.Omega.{arith}
 use lib.IntN.{ℤ, pos, _+ℤ_}
 use lib.ListN.{length}
 use Rattle.integers.specs.Pairs.{unit}
-use Rattle.quadratic.specs.Quad.{none}
-use Rattle.curve.specs.Lows.{few}
+use Rattle.quadratic.specs.Quad.{none, countLimit}
 use Rattle.plan.specs.declared.Plan.{Plan}
 use Rattle.model.specs.Run.{numbers}
 use Rattle.model.specs.Runs.{walkBack}
@@ -26,7 +25,7 @@ use Rattle.search.specs.declared.Ended.{Ended}
 pub record Reaches (P : Plan) (zs : List ℤ) (T ws ws′ : List ℕ) (r : Ended) : Type 0 where
   pub walked : Walked P zs (length zs) T ws ws′ (r .walk)
   pub ends : EndTo P (tableAt P zs (length zs)) (P .states) (r .end)
-  pub changes : r .end .changes ≤ few
+  pub changes : r .end .changes ≤ countLimit
 
 module _ {P : Plan} {zs : List ℤ} {g : Shape} {T ws ws′ : List ℕ} {r : Ended} (accepts : searchNumber P (length zs) ≡ 0) (space : Workspace P zs g ws) (a : Reaches P zs T ws ws′ r) where
   abbrev last-table : Table

@@ -15,7 +15,6 @@ use mir.Facts.{toZ-ofZ}
 use mir.Syntax.{w16}
 use mir.Val.{SFits, toZ, ofZ, hbits}
 use Rattle.integers.specs.Pairs.{unit, lex}
-use Rattle.curve.specs.Lows.{few}
 use Rattle.plan.specs.declared.Plan.{Plan}
 use Rattle.plan.specs.declared.Edge.{Edge}
 use Rattle.model.specs.Model.{width, edgeAt, lossAt}
@@ -28,6 +27,7 @@ use Rattle.model.specs.Held.{Table, fromCount, leadsAt, edgeLeast}
 use Rattle.model.specs.Ends.{tableAt}
 use Rattle.model.specs.Runs.{walkBack}
 use Rattle.model.specs.Tables.{Ready, MeetsAt, some-edge, step-walk, step-count}
+use Rattle.quadratic.specs.Quad.{countLimit}
 use Rattle.layer.specs.declared.Shape.{Shape}
 use Rattle.layer.specs.Next.{Task}
 use Rattle.runs.specs.declared.Run.{Run}
@@ -74,7 +74,7 @@ module _ {P : Plan} {zs : List ℤ} (R : Ready P zs) (t : ℕ) (ht : suc (suc t)
         let (e, he, m) = some-edge P zs R t (p .count) (p .state) (p .level) ht (a .count) (a .state) (a .level) low in
         n e he (of-model e m)
 
-    module _ {e i : ℕ} (v c : ℕ) (f : StepFound P (suc t) T (p .count) (p .state) (p .level) want e i (lex v c)) (hc : c ≤ few) where
+    module _ {e i : ℕ} (v c : ℕ) (f : StepFound P (suc t) T (p .count) (p .state) (p .level) want e i (lex v c)) (hc : c ≤ countLimit) where
       abbrev before : Node
       before = node (fromCount P (suc t) e (p .count)) (edgeAt P e .from) (P .lo +ℤ pos i)
 
@@ -138,13 +138,13 @@ module _ {P : Plan} {zs : List ℤ} (R : Ready P zs) where
   lost-at (suc t) h k a want w n = never-lost R t k a want w n
 
   pub joined-at : (t : ℕ) → 1 ≤ t → t < length zs → {p : Point} → PointAt P zs (suc t) p → (want : ℕ) → want + unit * lossAt zs t (P .lo +ℤ pos (p .level)) ≡ valueOf p → p .last ≤ length zs
-      → {e i v c k s : ℕ} → StepFound P t (tableAt P zs t) (p .count) (p .state) (p .level) want e i (lex v c) → c ≤ few → k ≡ fromCount P t e (p .count) → s ≡ edgeAt P e .from → joins (edgeAt P e) ≡ true
+      → {e i v c k s : ℕ} → StepFound P t (tableAt P zs t) (p .count) (p .state) (p .level) want e i (lex v c) → c ≤ countLimit → k ≡ fromCount P t e (p .count) → s ≡ edgeAt P e .from → joins (edgeAt P e) ≡ true
       → {out : List ℤ} → StepMade P zs t p (record { count = k; state = s; level = i; value = v; changes = c; last = p .last; runs = p .runs }) out out
   joined-at zero h n a want w l f hc ec es j = absurd (omega arith)
   joined-at (suc t) h n a want w l f hc ec es j = rw (ec, es) (joined R t n a want w _ _ f hc l j)
 
   pub put-at : (t : ℕ) → 1 ≤ t → t < length zs → {p : Point} → PointAt P zs (suc t) p → (want : ℕ) → want + unit * lossAt zs t (P .lo +ℤ pos (p .level)) ≡ valueOf p → p .last ≤ length zs
-      → {e i v c k s : ℕ} → StepFound P t (tableAt P zs t) (p .count) (p .state) (p .level) want e i (lex v c) → c ≤ few → k ≡ fromCount P t e (p .count) → s ≡ edgeAt P e .from → joins (edgeAt P e) ≡ false
+      → {e i v c k s : ℕ} → StepFound P t (tableAt P zs t) (p .count) (p .state) (p .level) want e i (lex v c) → c ≤ countLimit → k ≡ fromCount P t e (p .count) → s ≡ edgeAt P e .from → joins (edgeAt P e) ≡ false
       → {out out′ : List ℤ} {r : Run} → fiveOf r ≡ five (M.run (suc t) (p .last) (p .state) (P .lo +ℤ pos (p .level)) e) → Put (p .runs) r out out′
       → StepMade P zs t p (record { count = k; state = s; level = i; value = v; changes = c; last = t; runs = p .runs + 1 }) out out′
   put-at zero h n a want w l f hc ec es j e5 m = absurd (omega arith)
@@ -191,7 +191,7 @@ module _ (P : Plan) (t : ℕ) (H : Table) (k s j want : ℕ) (b : Back) (f : Ste
   pub lost-of : b ≡ Lost → (e : ℕ) → e < P .edgecount → Meets P t H k s j want e → ⊥
   lost-of q = subst (StepTo P t H k s j want) q f
 
-  pub found-of : {e i v c : ℕ} → b ≡ To e i v c → StepFound P t H k s j want e i (lex v c) × (c ≤ few)
+  pub found-of : {e i v c : ℕ} → b ≡ To e i v c → StepFound P t H k s j want e i (lex v c) × (c ≤ countLimit)
   found-of q = subst (StepTo P t H k s j want) q f
 
 -- the edge as code copied it

@@ -5,7 +5,6 @@ use Prim.Native.Nat.{ℕ, suc, _+_, _*_, _≤_, _<_}
 use lib.IntN.{ℤ, pos, _+ℤ_}
 use lib.ListN.{length}
 use Rattle.integers.specs.Pairs.{lex}
-use Rattle.curve.specs.Lows.{few}
 use Rattle.plan.specs.declared.Plan.{Plan}
 use Rattle.model.specs.Model.{width}
 use Rattle.model.specs.Labels.{counts}
@@ -14,6 +13,7 @@ use Rattle.model.specs.Nodes.{Node, node}
 use Rattle.model.specs.Index.{noCost}
 use Rattle.model.specs.Ends.{tableAt}
 use Rattle.model.specs.Runs.{walkBack}
+use Rattle.quadratic.specs.Quad.{countLimit}
 use Rattle.layer.specs.declared.Shape.{Shape}
 use Rattle.layer.specs.Layer.{placeMost, Layer}
 use Rattle.layer.specs.Next.{Task}
@@ -31,7 +31,7 @@ pub record PointAt (P : Plan) (zs : List ℤ) (t : ℕ) (p : Point) : Type 0 whe
   pub level : p .level < width P
   pub is : valueOf p ≡ tableAt P zs t (p .count) (p .state) (p .level)
   pub some : valueOf p < noCost
-  pub changes : p .changes ≤ few
+  pub changes : p .changes ≤ countLimit
 
 abbrev pub nodeAt : Plan → Point → Node
 nodeAt P p = node (p .count) (p .state) (P .lo +ℤ pos (p .level))

@@ -1,6 +1,6 @@
+use Rattle.quadratic.specs.Quad.{countLimit}
 use Rattle.back.specs.Read.{Reads, EndTo, end-none, end-all}
 use Rattle.model.specs.Held.{Table}
-use Rattle.curve.specs.Lows.{few}
 use Prim.Native.Nat.{ℕ, _+_, _-_, _≤_, _<_}
 use native.Mathlib.Omega.{arith}
 use mathlib.Core.Path.{_≡_, _∙_, sym, refl, ap}
@@ -12,7 +12,7 @@ use Rattle.back.proofs.best_end.Lts as lts
 use Rattle.back.proofs.better_end.Reads as better-end-reads
 
 abbrev Inv-loop : tie.InvT-loop
-Inv-loop ws plan cur g states best₀ s₀ best s = ((s ≤ plan .states) × (best .changes ≤ few)) × ((H : Table) → Reads 1 cur g ws H → EndTo plan H s best)
+Inv-loop ws plan cur g states best₀ s₀ best s = ((s ≤ plan .states) × (best .changes ≤ countLimit)) × ((H : Table) → Reads 1 cur g ws H → EndTo plan H s best)
 
 abbrev μ-loop : tie.MeasureT-loop
 μ-loop ws plan cur g states best₀ s₀ best s = states - s

@@ -5,7 +5,7 @@ use Prim.Native.Nat.{ℕ, _≤_}
 use Rattle.integers.specs.Pairs.{lex}
 use Rattle.quadratic.specs.Quad.{quad}
 use Rattle.curve.specs.declared.Rank.{Rank}
-use Rattle.curve.specs.Lows.{few, rankOf}
+use Rattle.curve.specs.Lows.{rankOf}
 use borrow.Author.Needs.{needs}
 use Rattle.curve.proofs.lesser_at.Statement.{statement}
 use Rattle.curve.proofs.lesser_at.Tie as tie

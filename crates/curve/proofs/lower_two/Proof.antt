@@ -6,7 +6,7 @@ use borrow.Author.Tests.{ltb-true, ltb-false}
 use Rattle.integers.specs.Pairs.{lex}
 use Rattle.quadratic.specs.Quad.{quad}
 use Rattle.curve.specs.declared.Rank.{Rank}
-use Rattle.curve.specs.Lows.{few, rankOf}
+use Rattle.curve.specs.Lows.{rankOf}
 use Rattle.curve.proofs.Second.{two-kept, two-new}
 use borrow.Author.Needs.{needs}
 use Rattle.curve.proofs.lower_two.Statement.{statement}

@@ -3,16 +3,16 @@ use mathlib.Core.Logic.{inl}
 use mathlib.Core.Path.{_≡_, refl, sym, _∙_, subst}
 use Prim.Native.Nat.{ℕ, _+_, _-_, _≤_}
 use native.Mathlib.Omega.{arith}
-use Rattle.quadratic.specs.Quad.{Quad, quad, Small, down, up}
+use Rattle.quadratic.specs.Quad.{Quad, quad, Small, down, up, countLimit}
 use Rattle.curve.specs.Lists.{emits-none, emits-then, made}
-use Rattle.curve.specs.Lows.{few, bestOf, costs, lowest, prefixOf, lowest-zero, lowest-most}
+use Rattle.curve.specs.Lows.{bestOf, costs, lowest, prefixOf, lowest-zero, lowest-most}
 use Rattle.curve.specs.Pieces.{Emits, piece, endOf}
 use Rattle.curve.proofs.Laws.{At, Seen, seen, at-start}
 use Rattle.curve.proofs.running_min.Statement.{statement}
 use Rattle.curve.proofs.running_min.Tie as tie
 
 abbrev Inv-loop : tie.InvT-loop
-Inv-loop ws₀ f dst levels base run₀ i₀ x₀ ws run i x = ((x ≤ levels) × (At ws₀ f levels i x × ((lowest (costs base (piece ws₀ f levels)) x ≡ bestOf run) × (run .changes ≤ few)))) × Emits (prefixOf base (piece ws₀ f levels)) ws₀ ws dst 0 0 x (run .n)
+Inv-loop ws₀ f dst levels base run₀ i₀ x₀ ws run i x = ((x ≤ levels) × (At ws₀ f levels i x × ((lowest (costs base (piece ws₀ f levels)) x ≡ bestOf run) × (run .changes ≤ countLimit)))) × Emits (prefixOf base (piece ws₀ f levels)) ws₀ ws dst 0 0 x (run .n)
 
 abbrev μ-loop : tie.MeasureT-loop
 μ-loop ws₀ f dst levels base run₀ i₀ x₀ ws run i x = levels - x

@@ -2,8 +2,8 @@
 use Prim.Native.Nat.{_+_, _-_, _≤_}
 use native.Mathlib.Omega.{arith}
 use borrow.Author.Needs.{needs}
+use Rattle.quadratic.specs.Quad.{costLimit, countLimit}
 use Rattle.curve.specs.Curve.{curve-reads, curve-sized, curve-raised, curve-yields}
-use Rattle.edges.specs.Edge.{most}
 use Rattle.edges.proofs.Moves.{joined}
 use Rattle.edges.proofs.take.Statement.{statement}
 use Rattle.edges.proofs.take.Tie as tie
@@ -13,8 +13,8 @@ least-of-two-requires c κs =
     let s = c .before .before in
     let h = s .pre .0 .0 in
     let l = s .pre .1 .0 in
-    let x : most - 1 + s .args .ch ≤ most = omega (arith, s .pre .0 .1 .1) in
-    let y : 18014398509481984 - s .args .pen + s .args .pen ≤ 18014398509481984 = omega (arith, s .pre .0 .1 .0) in
+    let x : countLimit - 1 + s .args .ch ≤ countLimit = omega (arith, s .pre .0 .1 .1) in
+    let y : costLimit - s .args .pen + s .args .pen ≤ costLimit = omega (arith, s .pre .0 .1 .0) in
     let a = s .pre .1 .1 .0 in
     let g = s .pre .1 .1 .1 in (
       (curve-reads (s .args .next) a (h .acc-next), (curve-reads (s .args .next) g (h .g-next), h .room-next)),

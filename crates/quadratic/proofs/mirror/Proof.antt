@@ -1,11 +1,12 @@
 use Prim.Native.Nat.{_*_, _%_, _≤_}
 use native.Mathlib.Omega.{arith}
+use Rattle.quadratic.specs.Quad.{countLimit}
 use Rattle.quadratic.specs.Fine.{prod≤}
 use borrow.Author.Needs.{needs}
 use Rattle.quadratic.proofs.mirror.Statement.{statement}
 use Rattle.quadratic.proofs.mirror.Tie as tie
 
-bound : (s : tie.Start) → ((s .args .q .w % 4294967296) * s .args .s ≤ 1048576 * 524287) × ((s .args .s * s .args .s ≤ 524287 * 524287) × (((s .args .q .w % 4294967296) * (s .args .s * s .args .s) ≤ 1048576 * (524287 * 524287)) × (s .args .q .z * s .args .s ≤ 549755813888 * 524287)))
+bound : (s : tie.Start) → ((s .args .q .w % 4294967296) * s .args .s ≤ countLimit * 524287) × ((s .args .s * s .args .s ≤ 524287 * 524287) × (((s .args .q .w % 4294967296) * (s .args .s * s .args .s) ≤ countLimit * (524287 * 524287)) × (s .args .q .z * s .args .s ≤ 549755813888 * 524287)))
 bound s =
     let h = s .pre in
     let g : s .args .s ≤ 524287 = omega arith in

@@ -1,6 +1,7 @@
 -- `quadratic::rise`: the product's bound is a product of bounds. Assumes nothing.
 use Prim.Native.Nat.{_*_, _≤_}
 use native.Mathlib.Omega.{arith}
+use Rattle.quadratic.specs.Quad.{countLimit}
 use Rattle.quadratic.specs.Fine.{prod≤}
 use Rattle.quadratic.proofs.rise.Statement.{statement}
 use Rattle.quadratic.proofs.rise.Tie as tie
@@ -8,8 +9,8 @@ use Rattle.quadratic.proofs.rise.Tie as tie
 square : (c : tie.Start) → c .args .v * c .args .v ≤ 262143 * 262143
 square c = prod≤ (c .args .v) (c .args .v) 262143 262143 (omega arith) (omega arith)
 
-whole : (c : tie.Start) → c .args .a * (c .args .v * c .args .v) ≤ 1048576 * (262143 * 262143)
-whole c = prod≤ (c .args .a) (c .args .v * c .args .v) 1048576 (262143 * 262143) (omega arith) (square c)
+whole : (c : tie.Start) → c .args .a * (c .args .v * c .args .v) ≤ countLimit * (262143 * 262143)
+whole c = prod≤ (c .args .a) (c .args .v * c .args .v) countLimit (262143 * 262143) (omega arith) (square c)
 
 mul-result : tie.Need-mul-result
 mul-result c = omega (arith, square c)

@@ -1,11 +1,12 @@
 use Prim.Native.Nat.{_*_, _%_, _≤_}
 use native.Mathlib.Omega.{arith}
+use Rattle.quadratic.specs.Quad.{countLimit}
 use Rattle.quadratic.specs.Fine.{prod≤}
 use borrow.Author.Needs.{needs}
 use Rattle.quadratic.proofs.shift.Statement.{statement}
 use Rattle.quadratic.proofs.shift.Tie as tie
 
-bound : (s : tie.Start) → ((s .args .q .w % 4294967296) * s .args .g ≤ 1048576 * 1023) × ((s .args .g * s .args .g ≤ 1023 * 1023) × (((s .args .q .w % 4294967296) * (s .args .g * s .args .g) ≤ 1048576 * (1023 * 1023)) × (s .args .q .z * s .args .g ≤ 549755813888 * 1023)))
+bound : (s : tie.Start) → ((s .args .q .w % 4294967296) * s .args .g ≤ countLimit * 1023) × ((s .args .g * s .args .g ≤ 1023 * 1023) × (((s .args .q .w % 4294967296) * (s .args .g * s .args .g) ≤ countLimit * (1023 * 1023)) × (s .args .q .z * s .args .g ≤ 549755813888 * 1023)))
 bound s =
     let h = s .pre in
     let g : s .args .g ≤ 1023 = omega arith in

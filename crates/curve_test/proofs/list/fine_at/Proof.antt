@@ -3,7 +3,7 @@ use native.Mathlib.Omega.{arith}
 use mathlib.Core.Logic.{inl, inr}
 use borrow.Author.Tests.{ltb-true, eqb-true}
 use Prim.Native.Nat.{_+_, _*_, _≤_}
-use Rattle.quadratic.specs.Quad.{quad}
+use Rattle.quadratic.specs.Quad.{quad, countLimit}
 use borrow.Author.Needs.{needs}
 use Rattle.curve_test.proofs.list.fine_at.Statement.{statement}
 use Rattle.curve_test.proofs.list.fine_at.Tie as tie
@@ -11,7 +11,7 @@ use Rattle.curve_test.proofs.list.fine_at.Tie as tie
 sized : (c : tie.Else1) → (quad (c .before .before .args .q) .a + quad (c .before .before .args .q) .k ≤ 1048573) × ((c .before .before .args .q .z ≤ 549755813888) × (c .before .before .args .q .c ≤ 1152921504606846976))
 sized c = c .before .small .ensures (passed _ (c .if1 .left))
 
-bound : (c : tie.Else1) → (quad (c .before .before .args .q) .a * c .before .before .args .v ≤ 1048576 * 262143) × ((c .before .before .args .v * c .before .before .args .v ≤ 262143 * 262143) × ((quad (c .before .before .args .q) .a * (c .before .before .args .v * c .before .before .args .v) ≤ 1048576 * (262143 * 262143)) × (c .before .before .args .q .z * c .before .before .args .v ≤ 549755813888 * 262143)))
+bound : (c : tie.Else1) → (quad (c .before .before .args .q) .a * c .before .before .args .v ≤ countLimit * 262143) × ((c .before .before .args .v * c .before .before .args .v ≤ 262143 * 262143) × ((quad (c .before .before .args .q) .a * (c .before .before .args .v * c .before .before .args .v) ≤ countLimit * (262143 * 262143)) × (c .before .before .args .q .z * c .before .before .args .v ≤ 549755813888 * 262143)))
 bound c = let s = c .before .before in products (quad (s .args .q) .a) (s .args .q .z) (s .args .q .c) (s .args .v) (quad (s .args .q) .k) (sized c) (s .pre)
 
 small-requires : tie.Need-small-requires
