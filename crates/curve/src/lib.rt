@@ -149,8 +149,8 @@ fn next(i: usize, e: u64, y: u64) -> usize
     if e == y { i + 1 } else { i }
 }
 
-// dst: at each level the less of f's and of g's with pen and ch changes added. Each turn is a stretch, and not all of the levels that two pieces share: nearly
-// all stretches are as long as that, and a loop over those of two pieces would take longer to begin than its one turn.
+// dst: at each level the less of f's and of g's with pen and ch changes added. A turn for each stretch, which mostly is all of the levels that two pieces
+// share: a loop inside, over the stretches of two pieces, would take longer to begin than its one turn.
 pub fn least_of_two(
     ws: &mut [u64],
     f: usize,
