@@ -1,4 +1,5 @@
 // Reads and writes answer files.
+#![tactic(auto)]
 ghost use Rattle.std.specs.Prelude.{◌≡◌, true, ◌+◌, ◌-◌, ◌*◌, ◌/◌, ◌≤◌, ◌<◌, ◌++◌, length, drop};
 ghost use Rattle.std.proofs.lemmas.List.Edits.{sets};
 ghost use Rattle.fields.specs.Fields.{put_at, field, bytes8};
@@ -10,7 +11,7 @@ use fields::{Field, Written};
 use plan::Plan;
 
 // What an answer file holds: a cost and how many runs, or a refusal; or why it was not read.
-#[derive(Drop)]
+#[derive(Clone, Copy)]
 pub enum AnswerRead {
     Runs { cost: u64, count: usize },
     Refusal(u8),

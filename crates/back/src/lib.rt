@@ -1,5 +1,6 @@
 // A layer read: the cheapest end, the cost at a point, and the step back over one boundary.
 // All functions here are inner ones: their `requires` say where the layer stands.
+#![tactic(auto)]
 ghost use Rattle.std.specs.Prelude.{◌≡◌, ℕ, ◌+◌, ◌*◌, ◌/◌, ◌≤◌, ◌<◌};
 ghost use Rattle.integers.specs.Pairs.{unit, lex};
 ghost use Rattle.quadratic.specs.Quad.{count_limit};
@@ -19,7 +20,7 @@ use layer::Shape;
 use plan::{Edge, Plan};
 
 // A cost with its changes, and the state and the level's index that have it.
-#[derive(Drop)]
+#[derive(Clone, Copy)]
 pub struct End {
     pub value: u64,
     pub changes: u64,
@@ -137,7 +138,7 @@ fn meets(low: Low, pen: u64, ch: u64, want: u64, changes: u64) -> bool
 }
 
 // The edge and the level's index before a boundary, and the cost there with its changes.
-#[derive(Drop)]
+#[derive(Clone, Copy)]
 pub enum Back {
     To {
         edge: usize,

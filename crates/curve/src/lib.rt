@@ -10,6 +10,7 @@
 //
 // An inner crate: overlap and ranges are `requires` of its functions. specs/Curve.antt has the laws that give them (`curve_reads`,
 // `curve_sized`, ..) and say what each result costs at each level (`curve_least`, `curve_shift`, ..).
+#![tactic(auto)]
 ghost use Rattle.std.specs.Prelude.{◌≡◌, true, false, ◌⊎◌, ℕ, ◌+◌, ◌*◌, ◌-◌, ◌≤◌, ◌<◌, length, get_or};
 ghost use Rattle.quadratic.specs.Quad.{quad, Small, Sized, Fine, raised, pushed, moved, mirrored, better, value, flat, none, up, down, Under, Over, Stays, count_limit, cost_limit};
 ghost use Rattle.curve.specs.Lows.{rank_of, LeastIn, TwoLeast, TwoLowered, LessAt, Drops, Prefixed, Lowered, prefix_of, costs, lowest};
@@ -97,7 +98,7 @@ fn reach(p: Packed, q: Packed, a: u64, y: u64, base: u64) -> u64
 }
 
 // Levels up to an end at which one quadratic is the better one.
-#[derive(Drop)]
+#[derive(Clone, Copy)]
 struct Stretch {
     winner: Packed,
     end: u64,
@@ -288,14 +289,14 @@ pub fn mirror(ws: &mut [u64], f: usize, dst: usize, levels: u64, base: u64)
 }
 
 // A cost and a number of changes. The one that comes first is the less of two.
-#[derive(Drop)]
+#[derive(Clone, Copy)]
 pub struct Rank {
     pub value: u64,
     pub changes: u64,
 }
 
 // A cost with its changes, and a level that has it.
-#[derive(Drop)]
+#[derive(Clone, Copy)]
 pub struct Low {
     pub value: u64,
     pub changes: u64,
@@ -303,7 +304,7 @@ pub struct Low {
 }
 
 // How many pieces there are, and the least so far: its cost and its changes.
-#[derive(Drop)]
+#[derive(Clone, Copy)]
 struct Run {
     pub n: usize,
     pub best: u64,
@@ -448,7 +449,7 @@ pub fn least_in(ws: &[u64], f: usize, from: u64, to: u64, levels: u64, base: u64
 }
 
 // The least, the lowest level that has it, and the least at the other levels; each a cost with its changes.
-#[derive(Drop)]
+#[derive(Clone, Copy)]
 pub struct Two {
     pub value: u64,
     pub changes: u64,

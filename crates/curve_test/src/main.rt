@@ -3,6 +3,7 @@
 // they should have, at 1440 + 40 s, and then their changes, at 1800 + 40 s. Slots 6 to 8 are temporary lists; what is made of them, and of
 // slots 0 to 2 or slots 3 to 5, goes to the other half. Constants are mostly low squares, penalties 0 or 1 and readings near, so that changes
 // often decide between equal costs.
+#![tactic(auto)]
 mod direct;
 mod list;
 mod run;

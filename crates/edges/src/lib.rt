@@ -8,6 +8,7 @@
 // numbers, and the place of the new least so far is one: a struct as a result would go through memory.
 //
 // An inner crate: which lists share no word, and their bounds, are `requires` (`Ready`, `Sound`).
+#![tactic(auto)]
 ghost use Rattle.std.specs.Prelude.{◌≡◌, ◌⊎◌, ℕ, ◌+◌, ◌*◌, ◌-◌, ◌≤◌, ◌<◌, ltb, length};
 ghost use Rattle.plan.specs.declared.Kind.TheVariants.{Any};
 ghost use Rattle.plan.specs.Build.{gap_of};

@@ -1,10 +1,11 @@
 // The fields of plan files and answer files: a tag, the length of the body in two bytes, the body.
+#![tactic(auto)]
 ghost use Rattle.std.specs.Prelude.{◌≡◌, ◌+◌, ◌-◌, ◌*◌, ◌≤◌, ◌<◌, length, drop, take, ◌++◌};
 ghost use Rattle.integers.specs.Bytes.{word};
 ghost use Rattle.fields.specs.Fields.{row, row_of, may_stand, length_fits, count_fits, field_at, field_number, part_of, field_body, put_at, join, number8};
 
 // A row of the table of tags: the stages at which the tag may stand, the stage after it, the length of its body.
-#[derive(Drop)]
+#[derive(Clone, Copy)]
 pub struct Row {
     pub first: u8,
     pub last: u8,
@@ -13,14 +14,14 @@ pub struct Row {
 }
 
 // A field: its tag, where its body starts and how long it is; or the refusal.
-#[derive(Drop)]
+#[derive(Clone, Copy)]
 pub enum Field {
     Body { tag: u8, start: usize, len: usize },
     Wrong(u8),
 }
 
 // What a writer answers: how many bytes it wrote, or the refusal.
-#[derive(Drop)]
+#[derive(Clone, Copy)]
 pub enum Written {
     Bytes(usize),
     Refused(u8),

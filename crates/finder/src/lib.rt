@@ -1,4 +1,5 @@
 // The calls for programs in C and Rust, over lent lists alone. A plan comes as the bytes of a plan file.
+#![tactic(auto)]
 ghost use Rattle.std.specs.Prelude.{◌≡◌, ℕ, ◌*◌, ◌≤◌, ◌<◌, length, take};
 ghost use Rattle.std.specs.Int.Signed.{mag};
 ghost use Rattle.search.specs.Search.{runs_after};
@@ -15,7 +16,7 @@ use search::{Cost, Filled, Found};
 
 // What a call gives: its refusal, 0 where there is none; a cost; and how many runs, costs, readings or bytes it wrote.
 #[repr(C)]
-#[derive(Drop)]
+#[derive(Clone, Copy)]
 pub struct Outcome {
     pub refusal: u8,
     pub cost: u64,
@@ -24,7 +25,7 @@ pub struct Outcome {
 
 // What reading an answer file gives: why it was not read, 0 where it was; the refusal that it holds, 0 for none; or its cost and how many runs.
 #[repr(C)]
-#[derive(Drop)]
+#[derive(Clone, Copy)]
 pub struct Reply {
     pub refusal: u8,
     pub held: u8,

@@ -1,6 +1,7 @@
 // Writes results as lines of hexadecimal, and reads files that stand one behind the other on standard input. What is written and which bytes
 // come is outside the logic: the functions that show give nothing back and change nothing, so that they have no promise, and the lines are
 // compared with stored ones.
+#![tactic(auto)]
 ghost use Rattle.std.specs.Prelude.{◌≡◌, ◌%◌};
 ghost use Rattle.hexout.specs.Digits.{digit_of};
 ghost use Rattle.hexout.specs.Input.{FileIn};

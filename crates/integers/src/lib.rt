@@ -1,4 +1,6 @@
 // Signed numbers: division rounded down, levels as places counted from 0, and their bytes.
+#![tactic(auto)]
+
 ghost use Rattle.std.specs.Prelude.{◌≡◌, ◌/◌, ◌%◌, ◌≤◌, ◌<◌, pos, ◌+ℤ◌};
 ghost use Rattle.integers.specs.Floor.{floor_div};
 ghost use Rattle.integers.specs.Bytes.{word, signed16, bits16};

@@ -1,5 +1,6 @@
 // Labels at one boundary: which label has it, and what its rule makes of the count that is kept of it: its changes, where one of another kind than the
 // label asks for counts two (`Marks` in `model/specs`).
+#![tactic(auto)]
 ghost use Rattle.std.specs.Prelude.{◌≡◌, suc, ◌-◌, ◌+◌, ◌≤◌, ◌<◌, eqb};
 ghost use Rattle.model.specs.Model.{change_of, need, asked_of, within};
 ghost use Rattle.model.specs.Marks.{mark_of};
@@ -11,7 +12,7 @@ ghost use Rattle.labels.specs.Boundary.{label_of, leads_from};
 use plan::{Edge, Kind, Label, Plan};
 
 // The label that has a boundary.
-#[derive(Drop)]
+#[derive(Clone, Copy)]
 pub enum Cover {
     Free,
     By(Label),

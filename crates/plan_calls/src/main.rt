@@ -1,5 +1,6 @@
 // Plays plan calls from standard input and writes what each answers. A call is eleven bytes: its code, then five numbers of two bytes, the
 // high byte first. Code 0 begins a new script, 1 opens, 2 adds an edge, 3 adds a label, 4 seals.
+#![tactic(auto)]
 use libc::{STDIN_FILENO, STDOUT_FILENO};
 use plan::{Answer, Built, Plan};
 

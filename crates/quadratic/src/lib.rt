@@ -5,6 +5,7 @@
 //
 // An inner crate: each function requires the range of its quadratics (`Small`), and the callers' invariant (`Fine`) gives it.
 // specs/Fine.antt has the laws that each operation keeps the invariant, and what it does to the value.
+#![tactic(auto)]
 ghost use Rattle.std.specs.Prelude.{◌≡◌, true, false, ℕ, ◌+◌, ◌*◌, ◌-◌, ◌≤◌, ◌<◌, leb, ltb, pos, ◌-ℤ◌};
 ghost use Rattle.integers.specs.Pairs.{unit, lex};
 ghost use Rattle.quadratic.specs.Level.{Placed};
@@ -17,7 +18,7 @@ pub const NONE: u64 = 1152921504606846976;
 // One change more, in the word that has a and k: w = a + 2^32 k.
 pub const CHANGE: u64 = 4294967296;
 
-#[derive(Drop)]
+#[derive(Clone, Copy)]
 pub struct Packed {
     pub w: u64,
     pub z: u64,

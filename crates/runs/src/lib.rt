@@ -1,9 +1,10 @@
 // The runs of an answer in a list of numbers, five a run: written one after the other, then turned round, since a search finds the last
 // run first.
+#![tactic(auto)]
 ghost use Rattle.std.specs.Prelude.{◌+◌, ◌*◌, ◌≤◌, ◌<◌, length};
 ghost use Rattle.runs.specs.Runs.{Put, Swapped, SwappedRuns, Reversed};
 
-#[derive(Drop)]
+#[derive(Clone, Copy)]
 pub struct Run {
     pub first: i32,
     pub last: i32,

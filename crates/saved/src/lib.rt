@@ -3,6 +3,7 @@
 //
 // The words of the workspace, with S states and L levels: two layers, from 0 and from LAYER_WORDS · S · L; the three temporary lists, from
 // FREE_AT · S · L; and the stack of saved layers, from TEMP_WORDS · L after that up to ALL_WORDS · S · L.
+#![tactic(auto)]
 ghost use Rattle.std.specs.Prelude.{◌≡◌, ◌+◌, ◌*◌, ◌≤◌, ◌<◌, length};
 ghost use Rattle.coded.specs.Coded.{Coded};
 ghost use Rattle.model.specs.Checked.{Checked};
@@ -27,7 +28,7 @@ pub const SLOTS: usize = 1024;
 pub const TABLE: usize = 2 * SLOTS + 1;
 
 // The layer after `time` readings stands at cur; other is where the other layer has its place; count entries of the table are in use.
-#[derive(Drop)]
+#[derive(Clone, Copy)]
 pub struct Walk {
     pub time: usize,
     pub cur: usize,
@@ -36,7 +37,7 @@ pub struct Walk {
 }
 
 // Where packed lists end, or that there is no room for them.
-#[derive(Drop)]
+#[derive(Clone, Copy)]
 pub enum Room {
     Upto(usize),
     Full,

@@ -1,4 +1,5 @@
 // Reads a plan file on standard input and writes its answer file to standard output.
+#![tactic(auto)]
 
 fn main() {
     // A reader decides by the first 9,011 bytes of a file, so the rest of a longer one need not be read.

@@ -1,6 +1,7 @@
 // One step of the way back: from the cost at a count, a state and a level after t + 1 readings to where it came from after t readings. A run
 // whose first reading is found is written to the lent list.
 // All functions here are inner ones: their `requires` say where the layer stands.
+#![tactic(auto)]
 ghost use Rattle.std.specs.Prelude.{◌≡◌, [], ◌∷◌, suc, ◌+◌, ◌-◌, ◌*◌, ◌≤◌, ◌<◌, pos, ◌+ℤ◌};
 ghost use Rattle.model.specs.Run.{joins};
 ghost use Rattle.quadratic.specs.Fine.{far};
@@ -16,7 +17,7 @@ use runs::Run;
 
 // Where the way back stands: count, state, index of the level, and the cost there with its changes; the last reading of the run that is open, and how many
 // runs are written.
-#[derive(Drop)]
+#[derive(Clone, Copy)]
 pub struct Point {
     pub count: usize,
     pub state: usize,

@@ -8,39 +8,35 @@ use mir.Facts.{to_z-of_z, sfits_widen}
 use mir.Syntax.{w16, w64}
 use mir.Val.{SFits}
 use Rattle.integers.specs.Rep.{iz, nz, ◌⊕◌, le_z_of, eq_n, sfits_of, sfits_n}
-use Rattle.integers.proofs.bias.Statement.{statement}
-use Rattle.integers.proofs.bias.Tie as tie
+use Rattle.integers.proofs.bias.Goals as goal
 
-wide : (c : tie.Start) → SFits w64 c.args.x
+wide : (c : goal.Start) → SFits w64 c.args.x
 wide c = sfits_widen tt c.ranges.x
 
-fits : (c : tie.Start) → SFits w64 (c.args.x +ℤ pos 163840)
+fits : (c : goal.Start) → SFits w64 (c.args.x +ℤ pos 163840)
 fits c =
     let b = sfits_n w16 (iz c.args.x) c.ranges.x in
     sfits_of w64 (iz c.args.x ⊕ nz 163840) (omega arith) (omega arith)
 
-known : (c : tie.Start) → T (non_neg (c.args.x +ℤ pos 163840))
+known : (c : goal.Start) → T (non_neg (c.args.x +ℤ pos 163840))
 known c =
     let b = sfits_n w16 (iz c.args.x) c.ranges.x in
     yes_non_neg (le_z_of (nz 0) (iz c.args.x ⊕ nz 163840) (omega arith))
 
-small : (c : tie.Start) → (131072 ≤ nat_abs (c.args.x +ℤ pos 163840)) × (nat_abs (c.args.x +ℤ pos 163840) < 196608)
+small : (c : goal.Start) → (131072 ≤ nat_abs (c.args.x +ℤ pos 163840)) × (nat_abs (c.args.x +ℤ pos 163840) < 196608)
 small c =
     let b = sfits_n w16 (iz c.args.x) c.ranges.x in
     let e = eq_n (nz (nat_abs (c.args.x +ℤ pos 163840))) (iz c.args.x ⊕ nz 163840) (pos-nat_abs _ (known c)) in
     (omega arith, omega arith)
 
-cast_result : tie.Need-overflow-cast-result
-cast_result c = rw (to_z-of_z c.ranges.x) (wide c)
+pub overflow_cast-result : goal.overflow_cast-result
+overflow_cast-result c = rw (to_z-of_z c.ranges.x) (wide c)
 
-add_result : tie.Need-overflow-add-result
-add_result c = rw (to_z-of_z c.ranges.x, to_z-of_z (wide c)) (fits c)
+pub overflow_add-result : goal.overflow_add-result
+overflow_add-result c = rw (to_z-of_z c.ranges.x, to_z-of_z (wide c)) (fits c)
 
-cast_result_2 : tie.Need-overflow-cast-result-2
-cast_result_2 c = rw (to_z-of_z c.ranges.x, to_z-of_z (wide c), to_z-of_z (fits c)) (known c, omega (arith, small c))
+pub overflow_cast-result-2 : goal.overflow_cast-result-2
+overflow_cast-result-2 c = rw (to_z-of_z c.ranges.x, to_z-of_z (wide c), to_z-of_z (fits c)) (known c, omega (arith, small c))
 
-returns : tie.Need-returns
+pub returns : goal.returns
 returns c = rw (to_z-of_z c.ranges.x, to_z-of_z (wide c), to_z-of_z (fits c)) (pos-nat_abs _ (known c), small c)
-
-pub bias_spec : {M : Type 1} → statement M
-bias_spec = tie.close (tie.spec cast_result add_result cast_result_2 returns)
