@@ -17,8 +17,8 @@ returns-then-class-gt-MAX_CLASS c = simp (lt-ltb _ _ c.if-states-from.false, lt-
 
 pub returns-in-Of : goal.returns-in-Of
 unfolding edge_of
-returns-in-Of c = simp (lt-ltb _ _ c.if-states-from.false, lt-ltb _ _ c.if-states-to.false, le-leb _ _ c.if-class-gt-MAX_CLASS.false, sym c.kind_of-read.ensures ∙ c.read-1.given.1)
+returns-in-Of c = simp (lt-ltb _ _ c.if-states-from.false, lt-ltb _ _ c.if-states-to.false, le-leb _ _ c.if-class-gt-MAX_CLASS.false, sym c.kind_of-read.ensures ∙ c.in-Of.is)
 
 pub returns-in-Wrong : goal.returns-in-Wrong
 unfolding edge_of
-returns-in-Wrong c = let z = c.before in simp (lt-ltb _ _ z.if-states-from.false, lt-ltb _ _ z.if-states-to.false, le-leb _ _ z.if-class-gt-MAX_CLASS.false, sym c.kind_of-read.ensures ∙ c.enum_told-1.given.1)
+returns-in-Wrong c = let z = c.before in simp (lt-ltb _ _ z.if-states-from.false, lt-ltb _ _ z.if-states-to.false, le-leb _ _ z.if-class-gt-MAX_CLASS.false, sym c.kind_of-read.ensures ∙ c.in-Wrong.is)

@@ -10,12 +10,12 @@ returns-then-n-ge-MAX_EDGES c = simp (le-leb 32 c.args.n (omega (arith, c.if-n-g
 
 pub returns-in_default : goal.returns-in_default
 unfolding edge_step
-returns-in_default c = simp (lt-leb _ _ c.if-n-ge-MAX_EDGES.false, sym c.Edge-of.ensures ∙ c.enum_told-1.given.1)
+returns-in_default c = simp (lt-leb _ _ c.if-n-ge-MAX_EDGES.false, sym c.edge_of-read.ensures ∙ c.in_default.is)
 
 pub returns-then-has_edge : goal.returns-then-has_edge
 unfolding edge_step
-returns-then-has_edge c = simp (lt-leb _ _ c.if-n-ge-MAX_EDGES.false, sym c.Edge-of.ensures ∙ c.read-1.given.1, sym c.has_edge.ensures ∙ c.if-has_edge.true)
+returns-then-has_edge c = simp (lt-leb _ _ c.if-n-ge-MAX_EDGES.false, sym c.edge_of-read.ensures ∙ c.in-Is.is, sym c.has_edge.ensures ∙ c.if-has_edge.true)
 
 pub returns : goal.returns
 unfolding edge_step
-returns c = simp (lt-leb _ _ c.if-n-ge-MAX_EDGES.false, sym c.Edge-of.ensures ∙ c.read-1.given.1, sym c.has_edge.ensures ∙ c.if-has_edge.false)
+returns c = simp (lt-leb _ _ c.if-n-ge-MAX_EDGES.false, sym c.edge_of-read.ensures ∙ c.in-Is.is, sym c.has_edge.ensures ∙ c.if-has_edge.false)
