@@ -14,7 +14,7 @@ use Rattle.quadratic.specs.Quad.{none, count_limit}
 use Rattle.plan.specs.declared.Plan.{Plan}
 use Rattle.plan.specs.declared.Edge.{Edge}
 use Rattle.plan.specs.declared.Label.{Label}
-use Rattle.model.specs.Bools.{same_test}
+use Rattle.model.proofs.Bools.{same_test}
 use Rattle.model.specs.Model.{width, edge_at, penalty, change_of}
 use Rattle.model.specs.Labels.{label_on, used, count_before}
 use Rattle.model.specs.Index.{no_cost, Permitted, edge_min}

@@ -9,10 +9,12 @@ use Rattle.integers.specs.Pairs.{lex}
 use Rattle.quadratic.specs.Quad.{none, count_limit, cost_limit}
 use Rattle.plan.specs.declared.Plan.{Plan}
 use Rattle.model.specs.Model.{width, in_set}
-use Rattle.model.specs.Labels.{label_on, counts, used_at, used_most}
+use Rattle.model.specs.Labels.{label_on, counts, used_at}
+use Rattle.model.proofs.Labels.{used_most}
 use Rattle.model.specs.Least.{Upto}
 use Rattle.model.specs.Index.{no_cost}
-use Rattle.model.specs.Held.{Table, min_below, min_none, penalty_most}
+use Rattle.model.specs.Held.{Table, min_below, penalty_most}
+use Rattle.model.proofs.Held.{min_none}
 use Rattle.model.specs.Ends.{end_at}
 use Rattle.curve.specs.declared.Low.{Low}
 use Rattle.curve.specs.Pieces.{piece}

@@ -18,7 +18,8 @@ use Rattle.curve.specs.Lows.{least_of, lowest, prefix_of, costs, TwoLeast}
 use Rattle.curve.specs.Curve.{Curve, Limits, curve_as, curve_prefix, curve_shift, curve_mirror, curve_least, curve_loss, curve_wider, curve_costs, curve_none, curve_most, curve_value}
 use Rattle.plan.specs.declared.Kind.{Kind}
 use Rattle.plan.specs.declared.Kind.TheVariants.{Stay, Any, Up, Down, Abs}
-use Rattle.model.specs.Index.{no_cost, prefix_min, suffix_min, up_min, down_min, edge_min, edge_min_lem, edge_min_none}
+use Rattle.model.specs.Index.{no_cost, prefix_min, suffix_min, up_min, down_min, edge_min}
+use Rattle.model.proofs.Index.{edge_min_lem, edge_min_none}
 use Rattle.model.specs.Model.{change_of}
 use Rattle.model.specs.Held.{raise}
 use Rattle.edges.proofs.Others.{any_inside, least_most, least_curve, others_curve, least_seen}

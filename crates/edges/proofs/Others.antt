@@ -17,7 +17,8 @@ use Rattle.curve.specs.Pieces.{piece, Made, constant_but}
 use Rattle.curve.specs.Lows.{least_of, second_of, costs, levelled, levelled_is, Beside, TwoLeast}
 use Rattle.curve.specs.Curve.{Curve, Limits, Bounded, curve_as, curve_flat, curve_flats, curve_most, curve_value, curve_two}
 use Rattle.plan.specs.declared.Kind.TheVariants.{Any}
-use Rattle.model.specs.Index.{no_cost, prefix_min, up_min, edge_min, Permitted, edge_min_is, edge_min_none, prefix_least}
+use Rattle.model.specs.Index.{no_cost, prefix_min, up_min, edge_min, Permitted}
+use Rattle.model.proofs.Index.{edge_min_is, edge_min_none, prefix_least}
 use Rattle.model.specs.Held.{raise}
 use Rattle.edges.specs.Edge.{raise_none, raise_some}
 

@@ -8,7 +8,8 @@ use Rattle.curve.specs.Pieces.{piece}
 use Rattle.curve.specs.Lows.{top_cost, low_of, costs, no_low, Least, LeastIn}
 use Rattle.curve.specs.Curve.{Curve, Limits}
 use Rattle.plan.specs.declared.Kind.{Kind}
-use Rattle.model.specs.Index.{no_cost, edge_min, Permitted, edge_min_is, edge_min_none}
+use Rattle.model.specs.Index.{no_cost, edge_min, Permitted}
+use Rattle.model.proofs.Index.{edge_min_is, edge_min_none}
 
 abbrev pub pick_low : Bool → Low → Low → Low
 pick_low true a b = a

@@ -18,12 +18,14 @@ use Rattle.plan.specs.declared.Plan.{Plan}
 use Rattle.model.specs.Segmentation.{Seg, readings}
 use Rattle.model.specs.Model.{on_grid, First}
 use Rattle.model.specs.Run.{Run, run, runs, five, numbers, run_numbers}
-use Rattle.model.specs.RunLaws.{RunOk, Tiles, runs_tile, numbers_length, numbers_get}
-use Rattle.model.specs.Bools.{clash, and_yes}
-use Rattle.model.specs.Checked.{Checked, Accepted, accepted, is_early, early_has, search_is_early}
+use Rattle.model.specs.RunLaws.{RunOk, Tiles}
+use Rattle.model.proofs.RunLaws.{runs_tile, numbers_length, numbers_get}
+use Rattle.model.proofs.Bools.{clash, and_yes}
+use Rattle.model.specs.Checked.{Checked, Accepted, is_early}
+use Rattle.model.proofs.Checked.{accepted, early_has, search_is_early}
 use Rattle.model.specs.Refusals.{search_number}
 use Rattle.model.specs.Result.{Result, found, refused, whole, result_of}
-use Rattle.model.specs.Demand3.{demand3}
+use Rattle.model.proofs.Demand3.{demand3}
 use Rattle.search.specs.Search.{work_words, search_result}
 use Rattle.search.specs.Lent.{lent}
 use Rattle.search.specs.Right.{search_early}

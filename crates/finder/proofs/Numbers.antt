@@ -20,7 +20,8 @@ use Rattle.plan.specs.declared.EdgeStep.TheVariants.{AddEdge, RefuseEdge}
 use Rattle.plan.specs.declared.Answer.{Answer}
 use Rattle.plan.specs.declared.Answer.TheVariants.{Done, Refused}
 use Rattle.plan.specs.Build.{pick, grid_ok, states_ok, blank, refused_at, done, open_number, open_plan, edge_of, has_edge, fresh_edge, read_edge, edge_step, add_step, plan_number, change_number, add_edge, with_label, label_number, label_step, add_label, closed, seal_plan}
-use Rattle.model.specs.Checked.{is_early, early_has, plan_is_early, label_is_early}
+use Rattle.model.specs.Checked.{is_early}
+use Rattle.model.proofs.Checked.{early_has, plan_is_early, label_is_early}
 use Rattle.fields.specs.declared.Field.{Field}
 use Rattle.fields.specs.declared.Field.TheVariants.{Body, Wrong}
 use Rattle.fields.specs.Fields.{row_of, may_stand, length_fits, count_fits, checked_field, field_at, field_number, part_of}

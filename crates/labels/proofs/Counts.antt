@@ -16,9 +16,11 @@ use Rattle.plan.specs.declared.Edge.{Edge}
 use Rattle.plan.specs.declared.Kind.{Kind}
 use Rattle.plan.specs.Build.{no_label}
 use Rattle.model.specs.Model.{label_at, change_of, up_of, down_of, within, need, asked_of}
-use Rattle.model.specs.Marks.{mark_of, mark_low}
+use Rattle.model.specs.Marks.{mark_of}
+use Rattle.model.proofs.Marks.{mark_low}
 use Rattle.model.specs.Checked.{Checked}
-use Rattle.model.specs.Labels.{covering, label_on, used, used_at, used_most, counts, count_after, count_before, label_test, within_out}
+use Rattle.model.specs.Labels.{covering, label_on, used, used_at, counts, count_after, count_before, label_test}
+use Rattle.model.proofs.Labels.{used_most, within_out}
 use Rattle.labels.specs.declared.Cover.{Cover}
 use Rattle.labels.specs.declared.Cover.TheVariants.{Free, By}
 use Rattle.labels.specs.Boundary.{label_of, leads_from}

@@ -5,7 +5,8 @@ use Rattle.plan.specs.declared.Plan.{Plan}
 use Rattle.plan.specs.declared.Label.{Label}
 use Rattle.plan.specs.declared.Edge.{Edge}
 use Rattle.model.specs.Model.{edge_at}
-use Rattle.model.specs.Labels.{label_on, count_after, count_before, label_test, used, led_used}
+use Rattle.model.specs.Labels.{label_on, count_after, count_before, label_test, used}
+use Rattle.model.proofs.Labels.{led_used}
 use Rattle.model.specs.Held.{from_count, leads_at}
 use Rattle.labels.specs.declared.Cover.{Cover}
 use Rattle.labels.specs.declared.Cover.TheVariants.{Free, By}

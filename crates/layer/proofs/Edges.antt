@@ -13,7 +13,8 @@ use Rattle.plan.specs.declared.Label.{Label}
 use Rattle.model.specs.Model.{change_of, penalty}
 use Rattle.model.specs.Labels.{count_before}
 use Rattle.model.specs.Index.{no_cost}
-use Rattle.model.specs.Held.{penalty_most, penalty_most_lem, Table, min_below}
+use Rattle.model.specs.Held.{penalty_most, Table, min_below}
+use Rattle.model.proofs.Held.{penalty_most_lem}
 use Rattle.labels.specs.Boundary.{leads_from}
 use Rattle.quadratic.specs.Quad.{count_limit, cost_limit}
 use Rattle.curve.specs.Pieces.{piece}

@@ -13,7 +13,8 @@ use Rattle.integers.specs.Rep.{le_or_lt}
 use Rattle.plan.specs.declared.Plan.{Plan}
 use Rattle.plan.specs.declared.Label.{Label}
 use Rattle.model.specs.Model.{width}
-use Rattle.model.specs.Labels.{label_on, counts, used_at, used_most}
+use Rattle.model.specs.Labels.{label_on, counts, used_at}
+use Rattle.model.proofs.Labels.{used_most}
 use Rattle.model.specs.Held.{Table}
 use Rattle.curve.specs.Pieces.{Apart}
 use Rattle.curve.specs.Lists.{count_most_lem}

@@ -21,12 +21,16 @@ use Rattle.plan.specs.declared.Kind.{Kind}
 use Rattle.plan.specs.declared.Kind.TheVariants.{Stay, Any, Up, Down, Abs}
 use Rattle.integers.specs.Rep.{iz, nz, ◌⊕◌, eq_n, le_z_of, sfits_n}
 use Rattle.model.specs.Model.{width, above, edge_at, change_of, on_grid, loss_at, in_set}
-use Rattle.model.specs.Grid.{above_add}
-use Rattle.model.specs.Labels.{label_on, counts, used_at, used_most, count_before}
-use Rattle.model.specs.Held.{from_count, leads_used}
+use Rattle.model.proofs.Grid.{above_add}
+use Rattle.model.specs.Labels.{label_on, counts, used_at, count_before}
+use Rattle.model.proofs.Labels.{used_most}
+use Rattle.model.specs.Held.{from_count}
+use Rattle.model.proofs.Held.{leads_used}
 use Rattle.model.specs.Index.{no_cost}
-use Rattle.model.specs.Held.{raise, penalty_most, Table, min_below, min_none, by_edge, leads_at, first_table, next_from, next_table}
-use Rattle.model.specs.Ends.{loss_most, losses_low, table_at}
+use Rattle.model.specs.Held.{raise, penalty_most, Table, min_below, by_edge, leads_at, first_table, next_from, next_table}
+use Rattle.model.proofs.Held.{min_none}
+use Rattle.model.specs.Ends.{loss_most, table_at}
+use Rattle.model.proofs.Ends.{losses_low}
 use Rattle.labels.specs.Boundary.{leads_from, leads_at_lem}
 use Rattle.integers.specs.Pairs.{unit, lex}
 use Rattle.quadratic.specs.Quad.{none, no_value, flat, absent, count_limit, cost_limit}

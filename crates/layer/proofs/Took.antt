@@ -12,7 +12,8 @@ use Rattle.plan.specs.declared.Label.{Label}
 use Rattle.model.specs.Model.{penalty, change_of}
 use Rattle.model.specs.Labels.{count_before, counts}
 use Rattle.model.specs.Index.{no_cost, edge_min}
-use Rattle.model.specs.Held.{penalty_most, penalty_most_lem, change_low, Table}
+use Rattle.model.specs.Held.{penalty_most, Table}
+use Rattle.model.proofs.Held.{penalty_most_lem, change_low}
 use Rattle.labels.specs.Boundary.{leads_from}
 use Rattle.curve.specs.Curve.{Curve, Limits, curve_as, curve_most}
 use Rattle.edges.specs.Edge.{Ready, Taken, spared_refl}

@@ -8,8 +8,9 @@ use lib.ListN.{length, get_or, drop, replicate}
 use lib.Signed.{mag}
 use Rattle.plan.specs.declared.Plan.{Plan}
 use Rattle.model.specs.Refusals.{search_number, table_number}
-use Rattle.model.specs.Checked.{Checked, accepted, accepted_table, table_not_16}
-use Rattle.model.specs.Tables.{ready_search}
+use Rattle.model.specs.Checked.{Checked}
+use Rattle.model.proofs.Checked.{accepted, accepted_table, table_not_16}
+use Rattle.model.proofs.Tables.{ready_search}
 use Rattle.model.specs.Neighbourhood.{table_of}
 use Rattle.layer.specs.declared.Shape.{Shape}
 use Rattle.layer.specs.Layer.{ShapeOf}

@@ -10,10 +10,12 @@ use lib.ListN.{length}
 use Rattle.integers.specs.Rep.{le_or_lt}
 use Rattle.plan.specs.declared.Plan.{Plan}
 use Rattle.model.specs.Model.{width}
-use Rattle.model.specs.Labels.{label_on, counts, used_most}
+use Rattle.model.specs.Labels.{label_on, counts}
+use Rattle.model.proofs.Labels.{used_most}
 use Rattle.model.specs.Index.{no_cost}
 use Rattle.model.specs.Held.{Table, first_table}
-use Rattle.model.specs.Totals.{total_at, total_first}
+use Rattle.model.specs.Totals.{total_at}
+use Rattle.model.proofs.Totals.{total_first}
 use Rattle.quadratic.specs.Quad.{absent}
 use Rattle.curve.specs.Pieces.{Made}
 use Rattle.curve.specs.Curve.{Curve, curve_kept, curve_flat, near}

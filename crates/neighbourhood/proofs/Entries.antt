@@ -12,20 +12,22 @@ use lib.IntN.{ℤ}
 use lib.ListN.{length, get_or, take, drop, set, length-set, take-append-drop}
 use lib.Seq.{take-suc, take-suc-set, drop-set-lt, drop-drop}
 use Rattle.plan.specs.declared.Plan.{Plan}
-use Rattle.model.specs.Labels.{label_on, used_some}
+use Rattle.model.specs.Labels.{label_on}
+use Rattle.model.proofs.Labels.{used_some}
 use Rattle.model.specs.Refusals.{search_number}
-use Rattle.model.specs.Checked.{built_search}
+use Rattle.model.proofs.Checked.{built_search}
 use Rattle.integers.specs.Pairs.{unit}
 use Rattle.quadratic.specs.Quad.{none, count_limit}
-use Rattle.model.specs.Index.{reported, reported_some, reported_none}
+use Rattle.model.specs.Index.{reported}
+use Rattle.model.proofs.Index.{reported_some, reported_none}
 use Rattle.model.specs.Held.{Table, Holding}
 use Rattle.model.specs.Ends.{table_at, least_end_at}
-use Rattle.model.specs.Tables.{table_held}
+use Rattle.model.proofs.Tables.{table_held}
 use Rattle.model.specs.Totals.{total_at}
 use Rattle.model.specs.Result.{Costs, cost_list, no_costs}
 use Rattle.model.specs.Listed.{listed_with}
 use Rattle.model.specs.Neighbourhood.{most_word, entry_of, entries, table_of}
-use Rattle.model.specs.NeighbourhoodLaws.{entry_by, entries_size, table_entry, table_none_by, table_found_by}
+use Rattle.model.proofs.NeighbourhoodLaws.{entry_by, entries_size, table_entry, table_none_by, table_found_by}
 use Rattle.layer.specs.declared.Shape.{Shape}
 use Rattle.layer.specs.Layer.{ShapeOf, place_most, LayerOf}
 use Rattle.saved.specs.Packed.{Inside}

@@ -13,9 +13,11 @@ use lib.ListN.{length}
 use Rattle.integers.specs.Rep.{le_or_lt}
 use Rattle.plan.specs.declared.Plan.{Plan}
 use Rattle.model.specs.Model.{width}
-use Rattle.model.specs.Labels.{label_on, counts, used_most}
+use Rattle.model.specs.Labels.{label_on, counts}
+use Rattle.model.proofs.Labels.{used_most}
 use Rattle.model.specs.Held.{Table}
-use Rattle.model.specs.Totals.{total_at, total_zero, total_none}
+use Rattle.model.specs.Totals.{total_at}
+use Rattle.model.proofs.Totals.{total_zero, total_none}
 use Rattle.curve.specs.Curve.{curve_as}
 use Rattle.layer.specs.declared.Shape.{Shape}
 use Rattle.layer.specs.Layer.{temp_words, place_most, layer_cell, layer_words, LayerOf}

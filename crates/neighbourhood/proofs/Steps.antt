@@ -9,7 +9,8 @@ use lib.ListN.{length}
 use Rattle.integers.specs.Rep.{le_or_lt}
 use Rattle.plan.specs.declared.Plan.{Plan}
 use Rattle.model.specs.Held.{Table, next_from}
-use Rattle.model.specs.Totals.{total_at, total_next}
+use Rattle.model.specs.Totals.{total_at}
+use Rattle.model.proofs.Totals.{total_next}
 use Rattle.layer.specs.declared.Shape.{Shape}
 use Rattle.layer.specs.Layer.{layer_words, LayerOf, Sources}
 use Rattle.layer.specs.Next.{StepReady, Stepped}

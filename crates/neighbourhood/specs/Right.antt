@@ -8,12 +8,13 @@ use Rattle.model.specs.Segmentation.{Seg}
 use Rattle.model.specs.Model.{cost, change_count, AllowedWhole, First}
 use Rattle.model.specs.Run.{run_numbers}
 use Rattle.model.specs.Refusals.{search_number, table_number}
-use Rattle.model.specs.Checked.{accepted_table, table_search, table_20, table_fine, table_not_16}
+use Rattle.model.proofs.Checked.{accepted_table, table_search, table_20, table_fine, table_not_16}
 use Rattle.model.specs.Result.{found, refused, Costs, cost_list, no_costs}
 use Rattle.model.specs.Demand3.{NoneAllowed}
 use Rattle.model.specs.Neighbourhood.{most_word, entries, table_of}
-use Rattle.model.specs.NeighbourhoodLaws.{NoneWith, Entries, least_of, built_table, entries_size, met_by, low_at, largest_at, table_else, table_list, table_entries, table_16, 16-table, table_found}
-use Rattle.model.specs.Tables.{ready_search}
+use Rattle.model.specs.NeighbourhoodLaws.{NoneWith, Entries, least_of}
+use Rattle.model.proofs.NeighbourhoodLaws.{built_table, entries_size, met_by, low_at, largest_at, table_else, table_list, table_entries, table_16, 16-table, table_found}
+use Rattle.model.proofs.Tables.{ready_search}
 use Rattle.search.specs.Lent.{lent_early, lent_short, lent_narrow, lent_looks, lent_found}
 use Rattle.search.specs.Search.{work_words, search_result}
 use Rattle.search.specs.Right as S

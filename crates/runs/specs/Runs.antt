@@ -7,8 +7,8 @@ use Rattle.std.proofs.Math.ListN.{get_or-append}
 use Rattle.std.proofs.lemmas.List.{length-reverse}
 use Rattle.model.specs.Run as M
 use Rattle.model.specs.Run.{numbers, five}
-use Rattle.model.specs.RunLaws.{numbers_length, numbers_append, numbers_get}
-use Rattle.model.specs.Lists.{reverse_get}
+use Rattle.model.proofs.RunLaws.{numbers_length, numbers_append, numbers_get}
+use Rattle.model.proofs.Lists.{reverse_get}
 use Rattle.runs.specs.declared.Run.{Run}
 
 -- the five numbers of a run

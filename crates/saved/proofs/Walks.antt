@@ -12,7 +12,8 @@ use Rattle.integers.specs.Rep.{le_or_lt}
 use Rattle.plan.specs.declared.Plan.{Plan}
 use Rattle.model.specs.Model.{width}
 use Rattle.model.specs.Checked.{Checked}
-use Rattle.model.specs.Labels.{label_on, counts, used_at, used_most}
+use Rattle.model.specs.Labels.{label_on, counts, used_at}
+use Rattle.model.proofs.Labels.{used_most}
 use Rattle.model.specs.Held.{Table, first_table, next_table}
 use Rattle.model.specs.Ends.{table_at}
 use Rattle.layer.specs.declared.Shape.{Shape}

@@ -10,7 +10,7 @@ use borrow.Author.Tests.{ne_eqb}
 use mathlib.Core.Logic.{inr}
 use Rattle.plan.specs.declared.Plan.{Plan}
 use Rattle.model.specs.Refusals.{search_number}
-use Rattle.model.specs.Checked.{search_not_16}
+use Rattle.model.proofs.Checked.{search_not_16}
 use Rattle.model.specs.Result.{Result, refused, whole, result_of}
 use Rattle.saved.specs.Packed.{Inside}
 use Rattle.saved.specs.Walk.{limit}

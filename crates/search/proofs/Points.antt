@@ -14,16 +14,19 @@ use mir.Val.{SFits, to_z, of_z}
 use Rattle.integers.specs.Rep.{iz, nz, ◌⊕◌, eq_n}
 use Rattle.plan.specs.declared.Plan.{Plan}
 use Rattle.model.specs.Model.{width, above}
-use Rattle.model.specs.Grid.{grid_index}
+use Rattle.model.proofs.Grid.{grid_index}
 use Rattle.model.specs.Refusals.{point_number}
-use Rattle.model.specs.Checked.{Checked, accepted_point, point_not_16}
+use Rattle.model.specs.Checked.{Checked}
+use Rattle.model.proofs.Checked.{accepted_point, point_not_16}
 use Rattle.integers.specs.Pairs.{unit}
 use Rattle.quadratic.specs.Quad.{none}
-use Rattle.model.specs.Index.{reported, reported_some, reported_none}
+use Rattle.model.specs.Index.{reported}
+use Rattle.model.proofs.Index.{reported_some, reported_none}
 use Rattle.model.specs.Held.{Table}
 use Rattle.model.specs.Labels.{used_at}
-use Rattle.model.specs.Ends.{table_at, point_at, point_by}
-use Rattle.model.specs.Tables.{ready_point, table_held}
+use Rattle.model.specs.Ends.{table_at, point_at}
+use Rattle.model.proofs.Ends.{point_by}
+use Rattle.model.proofs.Tables.{ready_point, table_held}
 use Rattle.model.specs.Result.{Result, refused, point, found_cost, result_of}
 use Rattle.layer.specs.declared.Shape.{Shape}
 use Rattle.layer.specs.Layer.{Layer, ShapeOf, base_of}

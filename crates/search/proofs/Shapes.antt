@@ -10,7 +10,7 @@ use mir.Val.{SFits, to_z, of_z, hbits}
 use Rattle.integers.specs.Rep.{iz, nz, ◌⊕◌, eq_n, eq_z}
 use Rattle.plan.specs.declared.Plan.{Plan}
 use Rattle.model.specs.Model.{width, above}
-use Rattle.model.specs.Grid.{above_add}
+use Rattle.model.proofs.Grid.{above_add}
 use Rattle.model.specs.Checked.{Checked}
 use Rattle.layer.specs.declared.Shape.{Shape}
 use Rattle.layer.specs.Layer.{base_of, ShapeOf}

@@ -12,18 +12,22 @@ use mir.Val.{SFits}
 use Rattle.integers.specs.Rep.{iz, nz, ◌⊕◌, eq_n, le_z_of, sfits_n}
 use Rattle.plan.specs.declared.Plan.{Plan}
 use Rattle.model.specs.Model.{width, above}
-use Rattle.model.specs.Grid.{above_add}
+use Rattle.model.proofs.Grid.{above_add}
 use Rattle.model.specs.Run as M
 use Rattle.model.specs.Run.{numbers}
-use Rattle.model.specs.RunLaws.{numbers_length}
-use Rattle.model.specs.Labels.{label_on, used_some}
+use Rattle.model.proofs.RunLaws.{numbers_length}
+use Rattle.model.specs.Labels.{label_on}
+use Rattle.model.proofs.Labels.{used_some}
 use Rattle.model.specs.Refusals.{search_number}
 use Rattle.model.specs.Result.{Result, found, whole, result_of}
 use Rattle.quadratic.specs.Quad.{none, count_limit}
 use Rattle.model.specs.Held.{Table}
-use Rattle.model.specs.Ends.{table_at, walk_first, losses_low}
-use Rattle.model.specs.Tables.{Ready, ready_search}
-use Rattle.model.specs.Checked.{Checked, accepted}
+use Rattle.model.specs.Ends.{table_at}
+use Rattle.model.proofs.Ends.{walk_first, losses_low}
+use Rattle.model.specs.Tables.{Ready}
+use Rattle.model.proofs.Tables.{ready_search}
+use Rattle.model.specs.Checked.{Checked}
+use Rattle.model.proofs.Checked.{accepted}
 use Rattle.layer.specs.declared.Shape.{Shape}
 use Rattle.layer.specs.Layer.{Layer, ShapeOf, Shape-small, base_of}
 use Rattle.layer.specs.Next.{Task}

@@ -11,8 +11,9 @@ use Rattle.model.specs.Result.{found, refused, whole, result_of}
 use Rattle.model.specs.Nodes.{node}
 use Rattle.model.specs.Index.{no_cost}
 use Rattle.model.specs.Held.{Table, Holding}
-use Rattle.model.specs.Ends.{table_at, least_end_at, none_by, found_by}
-use Rattle.model.specs.Tables.{table_held, end_is}
+use Rattle.model.specs.Ends.{table_at, least_end_at}
+use Rattle.model.proofs.Ends.{none_by, found_by}
+use Rattle.model.proofs.Tables.{table_held, end_is}
 use Rattle.layer.specs.declared.Shape.{Shape}
 use Rattle.saved.specs.Walk.{Workspace, Walked}
 use Rattle.back.specs.Read.{end_of, EndTo}

@@ -8,11 +8,12 @@ use Rattle.plan.specs.declared.Plan.{Plan}
 use Rattle.model.specs.Segmentation.{Seg, readings, last_level}
 use Rattle.model.specs.Model.{cost, last_state, Allowed, LeastCost, First}
 use Rattle.model.specs.Run.{runs, run_numbers}
-use Rattle.model.specs.RunLaws.{numbers_length}
+use Rattle.model.proofs.RunLaws.{numbers_length}
 use Rattle.model.specs.Refusals.{search_number, point_number}
-use Rattle.model.specs.Checked.{search_not_16, point_not_16}
+use Rattle.model.proofs.Checked.{search_not_16, point_not_16}
 use Rattle.model.specs.Result.{Result, found, refused, whole, point, result_of}
-use Rattle.model.specs.Demand3.{NoneAllowed, demand3, cost_take}
+use Rattle.model.specs.Demand3.{NoneAllowed}
+use Rattle.model.proofs.Demand3.{demand3, cost_take}
 use Rattle.search.specs.Lent.{lent_early, lent_short, lent_narrow, lent_looks, lent_found}
 use Rattle.search.specs.Search.{work_words, search_result, point_result, found_of, cost_of, found_result, cost_result, runs_after, looked}
 

@@ -26,7 +26,8 @@ use Rattle.model.specs.Index.{no_cost, Permitted}
 use Rattle.model.specs.Held.{Table, from_count, leads_at, edge_least}
 use Rattle.model.specs.Ends.{table_at}
 use Rattle.model.specs.Runs.{walk_back}
-use Rattle.model.specs.Tables.{Ready, MeetsAt, some_edge, step_walk, step_count}
+use Rattle.model.specs.Tables.{Ready}
+use Rattle.model.proofs.Tables.{MeetsAt, some_edge, step_walk, step_count}
 use Rattle.quadratic.specs.Quad.{count_limit}
 use Rattle.layer.specs.declared.Shape.{Shape}
 use Rattle.layer.specs.Next.{Task}

@@ -8,7 +8,8 @@ use lib.ListN.{length, get_or, drop, replicate}
 use lib.Signed.{mag}
 use Rattle.plan.specs.declared.Plan.{Plan}
 use Rattle.model.specs.Refusals.{window_number}
-use Rattle.model.specs.Checked.{AcceptedWindow, accepted_window, window_not_16}
+use Rattle.model.specs.Checked.{AcceptedWindow}
+use Rattle.model.proofs.Checked.{accepted_window, window_not_16}
 use Rattle.model.specs.Window.{starts, windows_of}
 use Rattle.layer.specs.declared.Shape.{Shape}
 use Rattle.layer.specs.Layer.{ShapeOf}

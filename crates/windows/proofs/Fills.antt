@@ -10,10 +10,10 @@ use lib.Seq.{length-take-le, take-suc-set, drop-set-lt, drop-drop}
 use Rattle.plan.specs.declared.Plan.{Plan}
 use Rattle.model.specs.Refusals.{search_number}
 use Rattle.quadratic.specs.Quad.{none}
-use Rattle.model.specs.Tables.{ready_search}
+use Rattle.model.proofs.Tables.{ready_search}
 use Rattle.model.specs.Result.{found, refused, whole, result_of, Costs, cost_list, no_costs}
 use Rattle.model.specs.Window.{part_at, starts, costs_to, windows_of}
-use Rattle.model.specs.WindowLaws.{part_length, part_reading, costs_none, costs_more, costs_refused, parts_alike}
+use Rattle.model.proofs.WindowLaws.{part_length, part_reading, costs_none, costs_more, costs_refused, parts_alike}
 use Rattle.layer.specs.declared.Shape.{Shape}
 use Rattle.saved.specs.Packed.{Inside}
 use Rattle.saved.specs.Walk.{Workspace, limit}

@@ -7,11 +7,14 @@ use Rattle.plan.specs.declared.Plan.{Plan}
 use Rattle.model.specs.Segmentation.{Seg}
 use Rattle.model.specs.Model.{cost, First}
 use Rattle.model.specs.Refusals.{window_number}
-use Rattle.model.specs.Checked.{AcceptedWindow, accepted_window, window_not_16}
+use Rattle.model.specs.Checked.{AcceptedWindow}
+use Rattle.model.proofs.Checked.{accepted_window, window_not_16}
 use Rattle.model.specs.Result.{found, refused, whole, result_of, Costs, cost_list, no_costs}
-use Rattle.model.specs.Demand3.{NoneAllowed, demand3}
+use Rattle.model.specs.Demand3.{NoneAllowed}
+use Rattle.model.proofs.Demand3.{demand3}
 use Rattle.model.specs.Window.{part_at, starts, windows_of, costs_to}
-use Rattle.model.specs.WindowLaws.{Each, part_length, costs_each, costs_refused, at_none, costs_else}
+use Rattle.model.specs.WindowLaws.{Each}
+use Rattle.model.proofs.WindowLaws.{part_length, costs_each, costs_refused, at_none, costs_else}
 use Rattle.search.specs.Lent.{lent_early, lent_short, lent_narrow, lent_looks, lent_found}
 use Rattle.search.specs.Search.{work_words, search_result}
 use Rattle.search.specs.Right.{search_looks}

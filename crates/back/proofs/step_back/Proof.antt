@@ -8,7 +8,8 @@ use native.Mathlib.Omega.{arith}
 use Prim.Native.Nat.{ℕ, ◌+◌, ◌-◌, ◌≤◌, ◌<◌}
 use Rattle.integers.specs.Pairs.{lex}
 use Rattle.curve.specs.Lows.{low_of}
-use Rattle.model.specs.Held.{Table, penalty_most_lem, change_low}
+use Rattle.model.specs.Held.{Table}
+use Rattle.model.proofs.Held.{penalty_most_lem, change_low}
 use Rattle.back.specs.Read.{Reads}
 use Rattle.back.proofs.Steps.{may_offer_of, offers_of, test_of, none_before, not_this, is_this}
 use borrow.Author.Rules.{rules}

@@ -1,6 +1,6 @@
 -- `refusals::table_number` meets its contract. Assumes nothing.
 use mathlib.Core.Path.{◌∙◌, sym}
-use Rattle.model.specs.Checked.{table_search, table_20, table_fine}
+use Rattle.model.proofs.Checked.{table_search, table_20, table_fine}
 use native.Mathlib.Omega.{arith}
 use borrow.Author.Rules.{rules}
 use Rattle.refusals.proofs.table_number.Statement.{statement}

@@ -1,4 +1,4 @@
-use Rattle.model.specs.Checked.{window_ok}
+use Rattle.model.specs.Refusals.{window_ok}
 use borrow.Author.Tests.{eq-eqb, ne_eqb, le-leb, lt-leb}
 use borrow.Author.Rules.{rules}
 use Rattle.refusals.proofs.window_ok.Statement.{statement}

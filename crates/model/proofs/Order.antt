@@ -7,7 +7,7 @@ use Rattle.plan.specs.declared.Plan.{Plan}
 use Rattle.model.specs.Segmentation.{Seg, first, next, readings, last_level, back, Lower, readings_pos}
 use Rattle.model.specs.Model.{edge_at, last_state, Follows, order, First}
 use Rattle.model.specs.Listed.{lower_test}
-use Rattle.model.specs.Bools.{clash}
+use Rattle.model.proofs.Bools.{clash}
 
 -- neither is lower
 lt_z_neither : (x y : ℤ) → lt_z x y ≡ false → lt_z y x ≡ false → x ≡ y

@@ -19,11 +19,12 @@ use Rattle.plan.specs.Build.{plan_number}
 use Rattle.model.specs.Segmentation.{Seg, first, next, readings, last_level, Lower, readings_pos}
 use Rattle.model.specs.Model.{edge_at, label_at, above, width, permits, in_set, on_grid, last_state, Follows, cost, need, changes, asked, Exactly, AtMost, HoldsAt, KeepsLabels, Allowed, AllowedWhole, LeastCost, order, First}
 use Rattle.model.specs.Listed.{each, each_of, every_seg, follows_test, exactly_test, at_most_test, holds_test, all_below, allowed_test, whole_test, point_test, keep, lower_test, key, earlier, first_in, listed, lowest, least_in, listed_cost}
-use Rattle.model.specs.Lists.{In, in_left, in_right}
-use Rattle.model.specs.Bools.{clash, and_yes, yes_and}
-use Rattle.model.specs.Grid.{grid_index, le_z_true, le_z_both}
-use Rattle.model.specs.Order.{lower_yes, lower_no, lower_trans, back_length, order_one}
-use Rattle.model.specs.Checked.{checked}
+use Rattle.model.specs.Lists.{In}
+use Rattle.model.proofs.Lists.{in_left, in_right}
+use Rattle.model.proofs.Bools.{clash, and_yes, yes_and}
+use Rattle.model.proofs.Grid.{grid_index, le_z_true, le_z_both}
+use Rattle.model.proofs.Order.{lower_yes, lower_no, lower_trans, back_length, order_one}
+use Rattle.model.proofs.Checked.{checked}
 
 -- ---- what is listed and kept
 

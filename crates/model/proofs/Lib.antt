@@ -1,0 +1,29 @@
+-- The laws of the model, each file beside the definitions of that name in specs/. `demand3` in Demand3 is the third condition of acceptance; Order says that
+-- the order leaves no tie, Complete that the listing is complete and its tests are the rules; Bools, Lists and Grid are small laws.
+pub mod Demand3
+pub mod WindowLaws
+pub mod NeighbourhoodLaws
+pub mod RunLaws
+pub mod Examples
+pub mod Checked
+pub mod Order
+pub mod Complete
+pub mod Bools
+pub mod Lists
+pub mod Grid
+pub mod Cost
+pub mod Rank
+pub mod Least
+pub mod Layers
+pub mod Marks
+pub mod Labels
+pub mod Nodes
+pub mod Opt
+pub mod Answer
+pub mod Agree
+pub mod Index
+pub mod Held
+pub mod Runs
+pub mod Ends
+pub mod Tables
+pub mod Totals
