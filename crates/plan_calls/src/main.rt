@@ -1,7 +1,7 @@
 // Plays plan calls from standard input and writes what each answers. A call is eleven bytes: its code, then five numbers of two bytes, the
 // high byte first. Code 0 begins a new script, 1 opens, 2 adds an edge, 3 adds a label, 4 seals.
 #![tactic(auto)]
-use libc::{STDIN_FILENO, STDOUT_FILENO};
+
 use plan::{Answer, Built, Plan};
 
 fn word(high: u8, low: u8) -> u16 {
@@ -35,12 +35,12 @@ fn play(p: Plan, call: [u8; 11]) -> Built {
 fn write_answer(answer: Answer) {
     match answer {
         Answer::Done => {
-            io::write_all(STDOUT_FILENO, b"ok\n");
+            io::write_all(1, b"ok\n");
         }
         Answer::Refused(n) => {
-            io::write_all(STDOUT_FILENO, b"refusal ");
-            io::print_decimal(STDOUT_FILENO, n as u64);
-            io::write_all(STDOUT_FILENO, b"\n");
+            io::write_all(1, b"refusal ");
+            io::print_decimal(1, n as u64);
+            io::write_all(1, b"\n");
         }
     }
 }
@@ -49,7 +49,7 @@ fn main() {
     let mut plan = Plan::blank(0, 0, 0, 0, 0);
     let mut call = [0u8; 11];
     for _ in 0..100000usize {
-        if io::read_full(STDIN_FILENO, &mut call) < 11 {
+        if io::read_full(0, &mut call) < 11 {
             return;
         }
         let built = play(plan, call);
