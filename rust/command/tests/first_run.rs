@@ -12,7 +12,9 @@ const TOOLS: &str = "bash cat chmod cmp cp cut dirname env find grep install mkd
 
 /// The stand-in for `rt`: its steps leave what the real one leaves. It fails, or waits for a file, where the test has put a file that says so.
 const RT: &str = r#"#!/usr/bin/env bash
-echo "rt $*" >>calls
+crate=${PWD##*/}
+cd "$(dirname "$0")/.."
+echo "rt $* in $crate" >>calls
 [ "$1" = version ] && { [ -e dumb ] && exit 3; echo kit-1; exit; }
 echo "rt: first proved (1 s)"
 echo "library: loaded"
@@ -25,10 +27,10 @@ if [ -e broken ]; then
     echo "rt: finder NOT PROVED: its dependency plan is not proved"
     exit 1
 fi
-mkdir -p target/bin target/staticlib
-touch target/staticlib/libfinder.a
-printf '#!/usr/bin/env bash\ncat ANSWER\n' >target/bin/segment
-chmod +x target/bin/segment
+mkdir -p "crates/$crate/out"
+touch "crates/$crate/out/lib$crate.a"
+printf '#!/usr/bin/env bash\ncat ANSWER\n' >"crates/$crate/out/$crate"
+chmod +x "crates/$crate/out/$crate"
 "#;
 
 /// The stand-in for `cargo`: the command is the one under test.
@@ -77,7 +79,9 @@ impl Copy {
             fs::create_dir_all(target.parent().expect("a folder")).expect("folder");
             fs::copy(repository().join(name), target).expect("copy");
         }
-        put(&copy.folder.join("crates/plan/src/lib"), "fn plan\n");
+        for name in ["plan", "segment", "finder_c"] {
+            put(&copy.folder.join("crates").join(name).join("src/lib"), "fn plan\n");
+        }
         put(
             &copy.folder.join("bin/rt"),
             &RT.replace("ANSWER", &repository().join("examples/belt.answer").to_string_lossy()),
@@ -131,21 +135,23 @@ fn only_what_changed_is_proved_again() {
         "{err}"
     );
     let calls = copy.calls();
-    assert!(calls.contains("rt check segment\n") && calls.contains("rt staticlib finder\n"), "{calls}");
+    assert!(calls.contains("rt run in segment\n") && calls.contains("rt lib in finder_c\n"), "{calls}");
 
     let (_, out, err) = copy.done("example");
     shows_the_table(&out);
     assert!(err.contains("proved already"), "{err}");
-    assert!(!copy.calls().contains("rt check"));
+    assert!(!copy.calls().contains("rt run"));
 
-    // `rt ci` removes target/, which is no change of a source.
-    fs::remove_dir_all(copy.folder.join("target")).expect("removed");
+    // What `rt` made may be removed, which is no change of a source.
+    for name in ["segment", "finder_c"] {
+        fs::remove_dir_all(copy.folder.join("crates").join(name).join("out")).expect("removed");
+    }
     shows_the_table(&copy.done("example").1);
-    assert!(!copy.calls().contains("rt check"));
+    assert!(!copy.calls().contains("rt run"));
 
     put(&copy.folder.join("crates/plan/src/lib"), "fn other\n");
     copy.done("example");
-    assert!(copy.calls().contains("rt check segment\n"));
+    assert!(copy.calls().contains("rt run in segment\n"));
 }
 
 /// A library that was made by hand from other sources in between is not taken for the one that was kept.
@@ -154,10 +160,10 @@ fn what_was_made_in_between_is_noticed() {
     let copy = Copy::new("between");
     copy.done("example");
     copy.calls();
-    fs::write(copy.folder.join("target/staticlib/libfinder.a"), "other").expect("library");
+    fs::write(copy.folder.join("crates/finder_c/out/libfinder_c.a"), "other").expect("library");
     let (_, out, _) = copy.done("example");
     shows_the_table(&out);
-    assert!(copy.calls().contains("rt staticlib finder\n"));
+    assert!(copy.calls().contains("rt lib in finder_c\n"));
 }
 
 #[test]
@@ -212,7 +218,7 @@ fn a_failed_proof_says_why() {
     let (output, out, err) = copy.done("example");
     assert_eq!((output.status.code(), out.as_str()), (Some(1), ""));
     assert!(
-        err.contains("FAILED: rt check segment\n") && err.contains("Proof.antt:33:54: error: two types differ"),
+        err.contains("FAILED: rt run segment\n") && err.contains("Proof.antt:33:54: error: two types differ"),
         "{err}"
     );
     assert!(

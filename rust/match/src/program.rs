@@ -8,12 +8,12 @@ use std::time::Duration;
 
 /// What the program writes when its standard input is fed so.
 fn written(feed: impl FnOnce(ChildStdin) + Send + 'static) -> Vec<u8> {
-    // As with the library: the one that `rt` made last, or, where `rt ci` has removed that, the one that `tools/build` kept.
-    let program = ["../../target/bin/segment", "../target/proved/segment"]
+    // As with the library: the one that `rt` made last, or, where that was removed, the one that `tools/build` kept.
+    let program = ["../../crates/segment/out/segment", "../target/proved/segment"]
         .map(|path| Path::new(env!("CARGO_MANIFEST_DIR")).join(path))
         .into_iter()
         .find(|path| path.exists())
-        .expect("the program is missing; run in the root of the repository: rt check segment");
+        .expect("the program is missing; run in crates/segment: rt run");
     let mut child = Command::new(program)
         .stdin(Stdio::piped())
         .stdout(Stdio::piped())
