@@ -2,7 +2,7 @@
 use mathlib.Core.Path.{◌≡◌, refl, sym, ap, ◌∙◌, subst}
 use mathlib.Core.Logic.{◌⊎◌, inl, inr, ⊎_elim}
 use mathlib.Core.List.{List, ◌++◌}
-use Prim.Native.Nat.{ℕ, zero, suc, ◌+◌, ◌*◌, ◌-◌, ◌≤◌, ◌<◌}
+use Prim.Native.Nat.{ℕ, ◌+◌, ◌*◌, ◌-◌, ◌≤◌, ◌<◌}
 use native.Mathlib.Omega.{arith}
 use lib.ListN.{length, get_or, set, take, drop, length-set, length-drop, get_or-append}
 use lib.Seq.{paste, get_or-set_same, get_or-set_other, get_or-take, get_or-drop, get_or-append-add, length-take-le, length-paste, length_paste_head, ext_get_or}
@@ -12,9 +12,9 @@ use lib.Dec.{eqb, leb}
 use borrow.Author.Tests.{le-leb, lt-leb}
 use Rattle.quadratic.specs.Fine.{quad_eq, late_most}
 use Rattle.quadratic.specs.declared.Packed.{Packed}
-use Rattle.quadratic.specs.Quad.{Quad, quad, Small, Sized, Fine, Stays, Under, up, down, value, pick, late, better, raised, none, flat, absent, moved, mirrored}
-use Rattle.curve.specs.Pieces.{end_of, start_of, quad_at, piece, Formed, Built, Is, Kept, Same, Stored, Appended, Emits, Made, Held, Lent, shift_of, mirror_of, Turnable, Yields}
-use Rattle.curve.specs.Lists.{last_or, start_next, start_zero, count_le, end_lt, piece_at, same_quad, built_put, built_longer, kept_same, kept_refl, kept_then, kept_wider, kept_lent, same_end, same_start, opened, count_same, count_most_lem, built_most, emits_none, emits_append}
+use Rattle.quadratic.specs.Quad.{Quad, quad, Small, Sized, Stays, Under, up, down, pick, late, better, raised, none, flat, absent, moved}
+use Rattle.curve.specs.Pieces.{end_of, start_of, quad_at, piece, Formed, Built, Is, Kept, Same, Stored, Appended, Emits, Lent, shift_of, Yields}
+use Rattle.curve.specs.Lists.{last_or, start_next, start_zero, count_le, end_lt, piece_at, same_quad, built_put, built_longer, kept_same, kept_refl, kept_then, kept_wider, kept_lent, same_end, opened, count_same, emits_none, emits_append}
 
 pub set_kept : (ws : List ℕ) (i v : ℕ) → Kept ws (set ws i v) i 1
 set_kept ws i v = record { size = simp length-set; before = λ j h. get_or-set_other ws i j v 0 (λ e. omega arith); after = λ j h. get_or-set_other ws i j v 0 (λ e. omega arith) }

@@ -2,18 +2,17 @@
 use mathlib.Core.Path.{◌≡◌, refl, sym, ap, ◌∙◌, subst}
 use mathlib.Core.Logic.{◌⊎◌, inl, inr, ⊎_elim}
 use mathlib.Core.List.{List}
-use Prim.Native.Nat.{ℕ, zero, suc, ◌+◌, ◌*◌, ◌-◌, ◌≤◌, ◌<◌}
+use Prim.Native.Nat.{ℕ, ◌+◌, ◌-◌, ◌≤◌, ◌<◌}
 use native.Mathlib.Omega.{arith}
 use Rattle.integers.specs.Rep.{le_or_lt}
 use Rattle.integers.specs.Pairs.{lex}
 use Rattle.quadratic.specs.Fine.{value_most, fine_sized, late_is}
 use Rattle.quadratic.specs.Quad.{Quad, up, down, cost, value, flat, no_value, late, Small, Sized, Lowest, Stays, Under, Over, Fine, count_limit, cost_limit}
 use Rattle.curve.specs.declared.Low.{Low}
-use Rattle.curve.specs.declared.Run.{Run}
 use Rattle.curve.specs.Pieces.{Emits, Appended}
 use Rattle.curve.specs.Lists.{emits_append, emits_then, emits_as}
 use Rattle.curve.proofs.Laws.{small}
-use Rattle.curve.specs.Lows.{top, top_cost, low_of, no_low, costs, levelled, levelled_is, Least, LeastIn, Drops, Prefixed, Lowered, lowest, prefix_of, lowest_new, lowest_stays, lowest_falls, prefix_new, prefix_old}
+use Rattle.curve.specs.Lows.{top, top_cost, low_of, no_low, costs, levelled_is, Least, LeastIn, Drops, Lowered, lowest, prefix_of, lowest_new, lowest_stays, lowest_falls, prefix_new, prefix_old}
 
 pub drops_crossed : (p : Quad) (best a v base r : ℕ) → a ≤ v → Over (flat best 0) p (base + v) → Stays (flat best 0) p (base + a) (base + v) r → Drops p best a v base (r - base + 1)
 drops_crossed p best a v base r h o t = record {

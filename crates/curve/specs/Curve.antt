@@ -1,17 +1,17 @@
 -- What a list means to the layer above: a function of the level, F, whose values are costs with their changes as one number: none, or a cost less than B; and
 -- pieces of at most A readings and changes.
 -- Each operation's `Made` gives the result's, and what it requires follows from its lists'. Assumes nothing.
-use Rattle.std.specs.Prelude.{◌≡◌, refl, ◌⊎◌, Bool, true, false, List, ℕ, zero, suc, ◌+◌, ◌*◌, ◌-◌, ◌/◌, ◌%◌, ◌≤◌, ◌<◌, leb, ltb, eqb, length, get_or}
-use Rattle.std.proofs.Common.{sym, ap, ◌∙◌, subst, inl, inr, ⊎_elim, mul-le-mul_right, add-one, arith, le-leb, lt-ltb, le-ltb, eq-eqb}
+use Rattle.std.specs.Prelude.{◌≡◌, refl, ◌⊎◌, Bool, true, false, List, ℕ, zero, suc, ◌+◌, ◌*◌, ◌-◌, ◌/◌, ◌%◌, ◌≤◌, ◌<◌, leb, eqb, length}
+use Rattle.std.proofs.Common.{sym, ap, ◌∙◌, subst, inl, inr, ⊎_elim, mul-le-mul_right, arith, le-leb, eq-eqb}
 use Rattle.std.proofs.lemmas.Bool.{lt-leb}
 use Rattle.integers.specs.Rep.{le_or_lt}
 use Rattle.integers.specs.Pairs.{unit, lex}
-use Rattle.quadratic.specs.Quad.{Quad, up, down, value, none, no_value, flat, absent, Small, Sized, Fine, pick, raised, pushed, moved, mirrored, late, better, count_limit, cost_limit}
+use Rattle.quadratic.specs.Quad.{Quad, up, down, value, none, no_value, absent, Small, Sized, Fine, pick, raised, pushed, moved, mirrored, late, better, count_limit, cost_limit}
 use Rattle.quadratic.specs.Fine.{pick_n, Bounds, far, plus, square_most, fine_sized, fine_none, fine_flat, fine_wider, fine_raised, value_raised, fine_pushed, value_pushed, fine_moved, value_moved, mirror_sum, mirror_rest, fine_mirrored, value_mirrored, value_better, fine_better, value_most, value_absent, kinds, few}
 use Rattle.curve.specs.declared.Two.{Two}
-use Rattle.curve.specs.Pieces.{piece, none_only, Formed, Kept, Same, Apart, Made, Held, Lent, Copyable, Copied, shift_of, mirror_of, Turnable, Yields}
+use Rattle.curve.specs.Pieces.{piece, none_only, Kept, Same, Apart, Made, Held, Lent, Copyable, Copied, shift_of, mirror_of, Turnable, Yields}
 use Rattle.curve.specs.Lists.{same_built, kept_same, opened, count_most_lem, closed, copied_built, none_only_lem}
-use Rattle.curve.specs.Lows.{top, costs, levelled, Beside, TwoLeast, lowest, prefix_of, lowest_zero, lowest_new, lowest_old, lowest_among, prefix_new, prefix_old}
+use Rattle.curve.specs.Lows.{costs, levelled, TwoLeast, lowest, prefix_of, lowest_new, lowest_old, lowest_among, prefix_new, prefix_old}
 
 -- a piece that costs x at v
 pub record Costs (A B v : ℕ) (q : Quad) (x : ℕ) : Type 0 where

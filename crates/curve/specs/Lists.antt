@@ -1,11 +1,10 @@
 -- Laws of lists of pieces. Assumes nothing.
-use Rattle.std.specs.Prelude.{◌≡◌, refl, ◌⊎◌, Bool, true, false, cond, List, ℕ, zero, suc, ◌+◌, ◌*◌, ◌-◌, ◌≤◌, ◌<◌, leb, eqb, length, get_or}
-use Rattle.std.proofs.Common.{sym, ap, ◌∙◌, subst, inl, inr, ⊎_elim, eq-or-lt_of_le, add-one, arith, le-leb, eqb-true}
+use Rattle.std.specs.Prelude.{◌≡◌, refl, ◌⊎◌, Bool, true, false, cond, List, ℕ, zero, suc, ◌+◌, ◌*◌, ◌≤◌, ◌<◌, eqb, length, get_or}
+use Rattle.std.proofs.Common.{sym, ap, ◌∙◌, subst, inl, inr, ⊎_elim, arith, le-leb, eqb-true}
 use Rattle.std.proofs.lemmas.Bool.{lt-leb}
 use Rattle.integers.specs.Rep.{le_or_lt}
-use Rattle.quadratic.specs.Fine.{pick_n}
 use Rattle.quadratic.specs.Quad.{Quad, none}
-use Rattle.curve.specs.Pieces.{end_of, start_of, quad_at, seek, piece, none_only, Formed, Built, Is, Kept, Same, Apart, Stored, Appended, Emits, Made, Held, Lent, Copied}
+use Rattle.curve.specs.Pieces.{end_of, start_of, quad_at, seek, piece, none_only, Formed, Built, Is, Kept, Same, Appended, Emits, Made, Held, Lent, Copied}
 
 pub start_next : (ws : List ℕ) (o k : ℕ) → start_of ws o (k + 1) ≡ end_of ws o k + 1
 unfolding start_of

@@ -1,15 +1,15 @@
 -- The least of a function's values, and the lowest level that has it. A value is a cost with its changes as one number. Assumes nothing.
-use Rattle.std.specs.Prelude.{◌≡◌, refl, ◌⊎◌, List, ℕ, zero, suc, ◌+◌, ◌*◌, ◌-◌, ◌/◌, ◌%◌, ◌≤◌, ◌<◌, ltb}
-use Rattle.std.proofs.Common.{sym, ap, ◌∙◌, subst, inl, inr, ⊎_elim, add-one, arith, lt-ltb, le-ltb}
+use Rattle.std.specs.Prelude.{◌≡◌, refl, ◌⊎◌, List, ℕ, zero, suc, ◌+◌, ◌*◌, ◌/◌, ◌%◌, ◌≤◌, ◌<◌, ltb}
+use Rattle.std.proofs.Common.{◌∙◌, inl, inr, ⊎_elim, add-one, arith, lt-ltb, le-ltb}
 use Rattle.integers.specs.Rep.{le_or_lt}
 use Rattle.integers.specs.Pairs.{unit, lex, first_is, second_is}
 use Rattle.quadratic.specs.Fine.{pick_n}
-use Rattle.quadratic.specs.Quad.{Quad, value, none, no_value, flat, pick, Fine, up, down, Under, Over, count_limit}
+use Rattle.quadratic.specs.Quad.{Quad, value, no_value, flat, pick, Under, Over, count_limit}
 use Rattle.curve.specs.declared.Rank.{Rank}
 use Rattle.curve.specs.declared.Low.{Low}
 use Rattle.curve.specs.declared.Run.{Run}
 use Rattle.curve.specs.declared.Two.{Two}
-use Rattle.curve.specs.Pieces.{piece, Emits}
+use Rattle.curve.specs.Pieces.{Emits}
 
 -- more than any cost, and more than any value
 abbrev pub top_cost : ℕ

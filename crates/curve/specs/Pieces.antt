@@ -1,6 +1,6 @@
 -- A cost function in the workspace: pieces of four words from o on (the last level of the piece; a, and above it the changes; z; c), their last levels rising,
 -- the last one L − 1. What a list says at a level is the quadratic in force there, `piece`. Assumes nothing.
-use Rattle.std.specs.Prelude.{◌≡◌, ◌⊎◌, Bool, true, false, cond, List, ℕ, zero, suc, ◌+◌, ◌*◌, ◌-◌, ◌/◌, ◌%◌, ◌≤◌, ◌<◌, leb, eqb, length, get_or, drop}
+use Rattle.std.specs.Prelude.{◌≡◌, ◌⊎◌, Bool, false, cond, List, ℕ, zero, suc, ◌+◌, ◌*◌, ◌-◌, ◌≤◌, ◌<◌, leb, eqb, length, get_or, drop}
 use Rattle.std.proofs.Math.Seq.{paste}
 use Rattle.quadratic.specs.Fine.{pick_n}
 use Rattle.quadratic.specs.Quad.{Quad, quad, Sized, pick, flat, absent, none, moved, mirrored, better}

@@ -11,6 +11,7 @@
 // An inner crate: overlap and ranges are `requires` of its functions. specs/Curve.antt has the laws that give them (`curve_reads`,
 // `curve_sized`, ..) and say what each result costs at each level (`curve_least`, `curve_shift`, ..).
 #![tactic(auto)]
+
 ghost use Rattle.std.specs.Prelude.{◌≡◌, true, false, ◌⊎◌, ℕ, ◌+◌, ◌*◌, ◌-◌, ◌≤◌, ◌<◌, length, get_or};
 ghost use Rattle.quadratic.specs.Quad.{quad, Small, Sized, Fine, raised, pushed, moved, mirrored, better, value, flat, none, up, down, Under, Over, Stays, count_limit, cost_limit};
 ghost use Rattle.curve.specs.Lows.{rank_of, LeastIn, TwoLeast, TwoLowered, LessAt, Drops, Prefixed, Lowered, prefix_of, costs, lowest};

@@ -1,14 +1,14 @@
 -- Laws of quadratics in ℕ. `omega` multiplies products out, so each law hands it the one product that it cannot find. Assumes nothing.
 use mathlib.Core.Path.{◌≡◌, sym, ap, subst}
-use mathlib.Core.Logic.{◌⊎◌, inl, inr, ⊎_elim}
-use Prim.Native.Nat.{ℕ, zero, suc, ◌+◌, ◌*◌, ◌-◌, ◌/◌, ◌≤◌, ◌<◌}
-use native.Mathlib.Nat.{mul-le-mul, mul-le-mul_left, mul-lt-mul_of_pos_left, lt_of_mul-lt-mul_left}
+use mathlib.Core.Logic.{⊎_elim}
+use Prim.Native.Nat.{ℕ, zero, suc, ◌+◌, ◌*◌, ◌-◌, ◌≤◌, ◌<◌}
+use native.Mathlib.Nat.{mul-le-mul_left, mul-lt-mul_of_pos_left, lt_of_mul-lt-mul_left}
 use native.Mathlib.Omega.{arith}
 use lib.IntN.{ℤ, pos, ◌+ℤ◌, ◌-ℤ◌, ◌*ℤ◌}
 use lib.Signed.{◌≤ℤ◌, ◌<ℤ◌}
 use Rattle.integers.specs.Rep.{le_or_lt, iz, nz, ◌⊕◌, ◌⊖◌, ◌⊗◌, le_n, lt_n}
 use Rattle.quadratic.specs.Level.{Placed}
-use Rattle.quadratic.specs.Quad.{Quad, Small, Fine, Lowest, Cut, Turns, Stays, Halved, up, down, AtMost, Less, Under, Over}
+use Rattle.quadratic.specs.Quad.{Quad, Lowest, Cut, Turns, Stays, AtMost, Less, Under, Over}
 
 -- ---- a quotient below x + 1 or at least y: the end of [x, y]
 pub cut_low : (p q d x y : ℕ) → x ≤ y → p < d * (x + 1) + q → Cut p q d x y x

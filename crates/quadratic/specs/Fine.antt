@@ -1,10 +1,10 @@
 -- What is in force keeps in range, whatever is done to it, and what its value becomes. Assumes nothing.
-use Rattle.std.specs.Prelude.{◌≡◌, refl, ◌⊎◌, Bool, true, false, cond, ℕ, zero, suc, ◌+◌, ◌*◌, ◌-◌, ◌≤◌, ◌<◌, eqb, leb, ltb, ℤ, pos, negsuc, nat_abs, ◌+ℤ◌, ◌-ℤ◌}
-use Rattle.std.proofs.Common.{sym, ap, ◌∙◌, subst, inl, inr, ⊎_elim, mul-le-mul, mul-le-mul_left, mul-le-mul_right, arith, eq-eqb, ne_eqb, le-leb, lt-ltb, le-ltb}
+use Rattle.std.specs.Prelude.{◌≡◌, refl, ◌⊎◌, Bool, true, false, cond, ℕ, ◌+◌, ◌*◌, ◌-◌, ◌≤◌, ◌<◌, eqb, leb, ltb, ℤ, pos, negsuc, nat_abs, ◌+ℤ◌, ◌-ℤ◌}
+use Rattle.std.proofs.Common.{sym, ap, ◌∙◌, subst, inl, inr, ⊎_elim, mul-le-mul, mul-le-mul_left, arith, ne_eqb, le-leb, lt-ltb, le-ltb}
 use Rattle.std.proofs.lemmas.Bool.{lt-leb}
 use Rattle.integers.specs.Rep.{le_or_lt, iz, nz, ◌⊕◌, ◌⊖◌, eq_n, above, below}
 use Rattle.integers.specs.Pairs.{unit, lex}
-use Rattle.quadratic.specs.Quad.{Quad, up, down, cost, value, none, no_value, flat, absent, Small, Sized, Fine, pick, raised, pushed, moved, mirrored, late, better, count_limit, cost_limit}
+use Rattle.quadratic.specs.Quad.{Quad, up, down, cost, value, none, no_value, flat, absent, Sized, Fine, pick, raised, pushed, moved, mirrored, late, better, count_limit, cost_limit}
 
 mk : ℕ → ℕ → ℕ → ℕ → Quad
 mk a z c k = record { a = a; z = z; c = c; k = k }

@@ -6,6 +6,7 @@
 // An inner crate: each function requires the range of its quadratics (`Small`), and the callers' invariant (`Fine`) gives it.
 // specs/Fine.antt has the laws that each operation keeps the invariant, and what it does to the value.
 #![tactic(auto)]
+
 ghost use Rattle.std.specs.Prelude.{◌≡◌, true, false, ℕ, ◌+◌, ◌*◌, ◌-◌, ◌≤◌, ◌<◌, leb, ltb, pos, ◌-ℤ◌};
 ghost use Rattle.integers.specs.Pairs.{unit, lex};
 ghost use Rattle.quadratic.specs.Level.{Placed};
