@@ -1,12 +1,12 @@
 -- The least over the levels that an edge permits, and the lowest of them that has it: the step back. Assumes nothing.
-use Rattle.std.specs.Prelude.{◌≡◌, refl, ◌⊎◌, Bool, true, false, List, ℕ, ◌+◌, ◌*◌, ◌-◌, ◌≤◌, ◌<◌, ltb}
+use Rattle.std.specs.Prelude.{◌≡◌, ◌⊎◌, Bool, true, false, List, ℕ, ◌≤◌, ◌<◌, ltb}
 use Rattle.std.proofs.Common.{sym, ap, ◌∙◌, subst, inl, inr, ⊎_elim, arith, lt-ltb, le-ltb}
 use Rattle.integers.specs.Rep.{le_or_lt}
 use Rattle.quadratic.specs.Quad.{count_limit}
 use Rattle.curve.specs.declared.Low.{Low}
 use Rattle.curve.specs.Pieces.{piece}
 use Rattle.curve.specs.Lows.{top_cost, low_of, costs, no_low, Least, LeastIn}
-use Rattle.curve.specs.Curve.{Curve, Limits}
+use Rattle.curve.specs.Curve.{Curve}
 use Rattle.plan.specs.declared.Kind.{Kind}
 use Rattle.model.specs.Index.{no_cost, edge_min, Permitted}
 use Rattle.model.proofs.Index.{edge_min_is, edge_min_none}

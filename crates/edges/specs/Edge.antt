@@ -1,18 +1,18 @@
 -- One edge taken into the least so far. What an edge makes of a list is the model's `edge_min`; the penalty and the change are added by its `raise`.
 -- Assumes nothing.
-use Rattle.std.specs.Prelude.{◌≡◌, refl, ◌⊎◌, Bool, true, false, cond, List, ℕ, zero, suc, ◌+◌, ◌*◌, ◌-◌, ◌≤◌, ◌<◌, min, leb, ltb, eqb, length, get_or, ℤ, ◌+ℤ◌}
-use Rattle.std.proofs.Common.{sym, ◌∙◌, inl, inr, ⊎_elim, arith, add-one, le-leb, lt-ltb, le-ltb, eq-eqb, ne_eqb}
+use Rattle.std.specs.Prelude.{◌≡◌, refl, ◌⊎◌, List, ℕ, zero, suc, ◌+◌, ◌*◌, ◌-◌, ◌≤◌, ◌<◌, min, length, get_or, ℤ, ◌+ℤ◌}
+use Rattle.std.proofs.Common.{sym, ◌∙◌, inl, inr, ⊎_elim, arith, le-leb, lt-ltb, le-ltb, eq-eqb, ne_eqb}
 use Rattle.std.proofs.lemmas.Bool.{lt-leb}
 use Rattle.std.proofs.Math.IntN.{pos}
 use Rattle.integers.specs.Rep.{le_or_lt, iz, nz, ◌⊕◌, eq_n, eq_z}
 use Rattle.integers.specs.Pairs.{unit, lex}
 use Rattle.quadratic.specs.Quad.{no_value, count_limit, cost_limit}
-use Rattle.quadratic.specs.Fine.{pick_n, plus, far, far_signed, square_most}
-use Rattle.curve.specs.Pieces.{piece, Kept, Same, Apart}
-use Rattle.curve.specs.Lists.{kept_same, count_most_lem}
-use Rattle.curve.specs.Lows.{costs, lowest, top, lowest_zero, lowest_new, lowest_old}
-use Rattle.curve.specs.Curve.{Curve, Limits, less, curve_same, curve_costs, curve_wider}
-use Rattle.model.specs.Index.{no_cost, prefix_min, suffix_min, up_min, down_min, edge_min}
+use Rattle.quadratic.specs.Fine.{plus, far, far_signed, square_most}
+use Rattle.curve.specs.Pieces.{piece, Kept, Apart}
+use Rattle.curve.specs.Lists.{count_most_lem}
+use Rattle.curve.specs.Lows.{costs, lowest, lowest_zero, lowest_new, lowest_old}
+use Rattle.curve.specs.Curve.{Curve, Limits, less, curve_same}
+use Rattle.model.specs.Index.{no_cost, prefix_min}
 use Rattle.model.specs.Held.{raise}
 use Rattle.model.specs.Model.{square, loss_at}
 

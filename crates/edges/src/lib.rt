@@ -9,6 +9,7 @@
 //
 // An inner crate: which lists share no word, and their bounds, are `requires` (`Ready`, `Sound`).
 #![tactic(auto)]
+
 ghost use Rattle.std.specs.Prelude.{◌≡◌, ◌⊎◌, ℕ, ◌+◌, ◌*◌, ◌-◌, ◌≤◌, ◌<◌, ltb, length};
 ghost use Rattle.plan.specs.declared.Kind.TheVariants.{Any};
 ghost use Rattle.plan.specs.Build.{gap_of};

@@ -1,7 +1,7 @@
 -- Eight bytes and their number are one to one.
 -- Assumes nothing.
-use Rattle.std.specs.Prelude.{ℕ, ◌+◌, ◌*◌, ◌/◌, ◌%◌, ◌<◌, ◌≡◌, refl, List, [], ◌∷◌, length, get_or}
-use Rattle.std.proofs.Common.{arith, sym, ◌∙◌, ap, eq-eqb}
+use Rattle.std.specs.Prelude.{ℕ, ◌<◌, ◌≡◌, refl, List, [], ◌∷◌, length, get_or}
+use Rattle.std.proofs.Common.{arith, ◌∙◌, ap, eq-eqb}
 use Rattle.integers.specs.Bytes.{word_high, word_low}
 use Rattle.readings.specs.Trips.{AllBytes}
 use Rattle.fields.specs.Fields.{join, number8, bytes8}

@@ -1,15 +1,13 @@
 -- What a field that was read says of the file, and what reading a written field gives.
 -- Assumes nothing.
-use Rattle.std.specs.Prelude.{ℕ, zero, suc, ◌+◌, ◌-◌, ◌*◌, ◌/◌, ◌%◌, ◌≤◌, ◌<◌, ◌≡◌, refl, Bool, true, false, List, [], ◌∷◌, ◌++◌, ltb, leb, eqb, take, drop}
-use Rattle.std.proofs.Common.{arith, add-one, add-zero, sym, ◌∙◌, append_assoc, lit<, length-append, length-take, length-drop, drop_of_length-le, take_all, take-add, take_at, drop_at, drop-cons, get_or-append-add, get_or-take, length-take-le, get_or-drop}
-use Rattle.std.proofs.Math.Numerals.{add-two}
+use Rattle.std.specs.Prelude.{ℕ, zero, suc, ◌+◌, ◌-◌, ◌/◌, ◌%◌, ◌≤◌, ◌≡◌, refl, Bool, true, false, List, [], ◌∷◌, ◌++◌, ltb, leb, take, drop}
+use Rattle.std.proofs.Common.{arith, add-one, add-zero, sym, ◌∙◌, append_assoc, lit<, length-append, length-drop, drop_of_length-le, take-add, take_at, drop-cons, get_or-append-add, length-take-le, get_or-drop}
 use Rattle.std.proofs.Math.Path.{ap, ap₂}
 use Rattle.std.proofs.Math.ListN.{length, get_or}
-use Rattle.std.proofs.Math.Seq.{take-length, drop-append-add}
-use borrow.Author.Tests.{lt-ltb, le-ltb, ltb-false, ltb-true, leb-true, leb-false, le-leb, lt-leb, eqb-true, eqb-false, eq-eqb, ne_eqb}
+use Rattle.std.proofs.Math.Seq.{drop-append-add}
+use borrow.Author.Tests.{le-ltb, ltb-false, leb-true, le-leb}
 use Rattle.integers.specs.Pick.{pick}
 use Rattle.integers.specs.Bytes.{word, word_high, word_low, word_back}
-use Rattle.plan.specs.Counts.{count_ok}
 use Rattle.readings.specs.Trips.{AllBytes}
 use Rattle.fields.specs.declared.Field.{Field}
 use Rattle.fields.specs.declared.Field.TheVariants.{Body, Wrong}

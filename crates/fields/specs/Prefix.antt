@@ -1,7 +1,7 @@
 -- A field is decided by its own bytes: a file that is cut well behind it has the same one there.
 -- Assumes nothing.
-use Rattle.std.specs.Prelude.{ℕ, zero, suc, ◌+◌, ◌-◌, ◌*◌, ◌/◌, ◌%◌, ◌≤◌, ◌<◌, ◌≡◌, Bool, List, [], ◌∷◌, ◌++◌, ltb, leb, eqb, length, get_or, take, drop}
-use Rattle.std.proofs.Common.{arith, sym, ◌∙◌, ap₂, length-take, take-take, lt-ltb, le-ltb, ltb-true, ltb-false, leb-true, leb-false, le-leb, eqb-true, eq-eqb, ne_eqb}
+use Rattle.std.specs.Prelude.{ℕ, zero, suc, ◌+◌, ◌-◌, ◌/◌, ◌%◌, ◌≤◌, ◌≡◌, Bool, List, [], ◌∷◌, ltb, leb, eqb, length, get_or, take, drop}
+use Rattle.std.proofs.Common.{arith, sym, ◌∙◌, length-take, take-take, lt-ltb, le-ltb, ltb-true, ltb-false, leb-true, leb-false, le-leb, eqb-true, eq-eqb, ne_eqb}
 use Rattle.std.proofs.Math.Path.{refl, ap}
 use Rattle.std.proofs.Math.Bool.{true, false}
 use Rattle.std.proofs.Math.Seq.{get_or-take}
@@ -10,7 +10,6 @@ use Rattle.integers.specs.Pick.{pick}
 use Rattle.integers.specs.Bytes.{word}
 use Rattle.plan.specs.Counts.{count_ok}
 use Rattle.plan.specs.Counts.{count_is}
-use Rattle.fields.specs.declared.Field.{Field}
 use Rattle.fields.specs.declared.Field.TheVariants.{Body, Wrong}
 use Rattle.fields.specs.Fields.{row_of, may_stand, length_fits, count_fits, checked_field, field_at, part_of}
 use Rattle.fields.specs.Tags.{row_short, at_4}

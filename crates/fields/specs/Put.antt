@@ -1,6 +1,6 @@
 -- Bytes that are stored one after another, and the outcome of a writer.
 -- Assumes nothing.
-use Rattle.std.specs.Prelude.{ℕ, ◌+◌, ◌≤◌, ◌≡◌, refl, Bool, true, false, List, [], ◌∷◌, ◌++◌, eqb, leb, length, take, drop}
+use Rattle.std.specs.Prelude.{ℕ, ◌+◌, ◌≤◌, ◌≡◌, refl, Bool, true, false, List, [], ◌++◌, eqb, leb, length, take, drop}
 use Rattle.std.proofs.Common.{arith, zero-add, sym, ◌∙◌, ap, ap₂, append_assoc, append-nil, length-append, length-drop, take-append-drop, take_at, drop-drop, length-take-le}
 use Rattle.std.proofs.Math.Seq.{drop-append-add}
 use borrow.Author.Tests.{le-leb, leb-true, ne_eqb}

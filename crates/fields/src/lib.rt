@@ -1,5 +1,6 @@
 // The fields of plan files and answer files: a tag, the length of the body in two bytes, the body.
 #![tactic(auto)]
+
 ghost use Rattle.std.specs.Prelude.{◌≡◌, ◌+◌, ◌-◌, ◌*◌, ◌≤◌, ◌<◌, length, drop, take, ◌++◌};
 ghost use Rattle.integers.specs.Bytes.{word};
 ghost use Rattle.fields.specs.Fields.{row, row_of, may_stand, length_fits, count_fits, field_at, field_number, part_of, field_body, put_at, join, number8};

@@ -1,46 +1,40 @@
 -- A plan that passes, written with 1 to 4,096 readings and read again, comes back.
 -- Assumes nothing.
-use Prim.Native.Nat.{ℕ, zero, suc, ◌+◌, ◌-◌, ◌*◌, ◌/◌, ◌%◌, ◌≤◌, ◌<◌}
+use Prim.Native.Nat.{ℕ, zero, suc, ◌+◌, ◌*◌, ◌/◌, ◌%◌, ◌≤◌, ◌<◌}
 use native.Mathlib.Omega.{arith}
 use native.Mathlib.Nat.{zero-add}
 use native.Mathlib.Numerals.{add-one}
-use mathlib.Core.Path.{◌≡◌, refl, sym, ◌∙◌, ap, ap₂, subst}
+use mathlib.Core.Path.{◌≡◌, refl, sym, ◌∙◌, ap, ap₂}
 use mathlib.Core.Bool.{Bool, true, false}
 use mathlib.Core.List.{List, [], ◌∷◌, ◌++◌, append-nil, append_assoc}
-use mathlib.Core.Logic.{◌⊎◌, inl, inr, ⊎_elim}
-use lib.Dec.{eqb, leb}
-use lib.ListN.{length, get_or, set, take, drop, length-append, length-set, length-replicate}
+use lib.ListN.{length, get_or, take, drop, length-append, length-set, length-replicate}
 use lib.Seq.{take_at}
 use lib.IntN.{ℤ}
 use mir.Syntax.{w16}
 use mir.Val.{SFits}
-use borrow.Author.Tests.{eq-eqb, ne_eqb, eqb-true, eqb-false}
-use Rattle.integers.specs.Pick.{pick}
+use borrow.Author.Tests.{eq-eqb, eqb-false}
 use Rattle.integers.specs.Bytes.{word_back, signed_bits, bits16, signed16}
 use Rattle.readings.specs.Codec.{readings_of, bytes_of}
 use Rattle.plan.specs.Counts.{count_ok}
 use Rattle.readings.specs.Trips.{All16, bytes_length, decode_encode}
-use Rattle.plan.specs.Counts.{count_is}
-use Rattle.plan.specs.Build.{pick as choose, grid_ok, states_ok, open_number, open_plan, add_edge, add_label, seal_plan, change_number, plan_number, blank, closed, done, refused_at, no_edge, no_label, kind_number, gap_of, with_edge, with_label}
+use Rattle.plan.specs.Build.{pick as choose, grid_ok, states_ok, open_number, add_edge, add_label, seal_plan, plan_number, done, no_edge, no_label, kind_number, gap_of}
 use Rattle.plan.specs.Calls.{edge, label, edge_at, label_at}
 use Rattle.plan.specs.declared.Edge.{Edge}
 use Rattle.plan.specs.declared.Label.{Label}
 use Rattle.plan.specs.declared.Plan.{Plan}
 use Rattle.plan.specs.declared.Built.{Built}
-use Rattle.plan.specs.declared.Answer.{Answer}
-use Rattle.plan.specs.declared.Answer.TheVariants.{Done, Refused}
+use Rattle.plan.specs.declared.Answer.TheVariants.{Done}
 use Rattle.plan.proofs.Steps.{seal_done, change_none}
-use Rattle.plan.proofs.Kept.{Parts, parts}
+use Rattle.plan.proofs.Kept.{parts}
 use Rattle.plan.proofs.Cases.{Passing, blank_passing, call_keeps}
-use Rattle.fields.specs.Fields.{row_of, may_stand, length_fits, count_fits, field_at, part_of, word_at, field}
+use Rattle.fields.specs.Fields.{row_of, may_stand, length_fits, count_fits, field_at, part_of, field}
 use Rattle.fields.specs.Laws.{field_read, field_part}
 use Rattle.fields.specs.Put.{written}
-use Rattle.fields.specs.declared.Field.{Field}
-use Rattle.fields.specs.declared.Field.TheVariants.{Body, Wrong}
+use Rattle.fields.specs.declared.Field.TheVariants.{Body}
 use Rattle.files.specs.declared.FileRead.{FileRead}
-use Rattle.files.specs.Reader.{refused_file, grid_number, level_at, open_bodies, edge_body, label_body, entry_body, no_plan, on_answer, at_end, finish_file, on_field, entries_from, on_opened, on_states, on_grid, plan_file, readings_part}
+use Rattle.files.specs.Reader.{grid_number, level_at, open_bodies, edge_body, label_body, entry_body, finish_file, entries_from, plan_file, readings_part}
 use Rattle.files.specs.Writer.{grid_field, states_field, edge_field, label_field, edges_bytes, labels_bytes, head_bytes, plan_bytes, plan_length, write_number, after_writing}
-use Rattle.files.specs.Sizes.{counts_small, head_length, plan_length_lem, Writes, write_room}
+use Rattle.files.specs.Sizes.{counts_small, head_length, plan_length_lem, write_room}
 use Rattle.files.specs.Cleared.{edges_made, labels_made, cleared}
 use Rattle.files.proofs.Spell.{head_edge, head_label}
 use Rattle.files.proofs.Built.{add_of, opens, edge_call_lem, label_call_lem}

@@ -1,18 +1,17 @@
 -- A plan that passes is built call by call as the plan with zeros past its counts.
 -- Assumes nothing.
-use Prim.Native.Nat.{ℕ, zero, suc, ◌+◌, ◌-◌, ◌*◌, ◌≤◌, ◌<◌}
+use Prim.Native.Nat.{ℕ, zero, suc, ◌+◌, ◌-◌, ◌<◌}
 use native.Mathlib.Omega.{arith}
 use native.Mathlib.Nat.{zero-add}
-use mathlib.Core.Path.{◌≡◌, refl, sym, ◌∙◌, ap, ap₂, subst}
+use mathlib.Core.Path.{◌≡◌, refl, sym, ◌∙◌, ap, ap₂}
 use mathlib.Core.Bool.{Bool, true, false}
-use mathlib.Core.List.{List, [], ◌∷◌, ◌++◌, append-nil, append_assoc}
-use mathlib.Core.Logic.{◌⊎◌, inl, inr, ⊎_elim}
+use mathlib.Core.List.{List}
+use mathlib.Core.Logic.{⊎_elim}
 use lib.Dec.{eqb, leb, ltb}
-use lib.ListN.{length, get_or, set, length-set, length-replicate}
 use lib.IntN.{ℤ, pos}
-use borrow.Author.Tests.{eqb-true, eqb-false}
-use Rattle.plan.specs.Build.{pick, kind_at, kind_number, gap_of, fresh_edge, read_edge, has_edge, edge_of, edge_step, change_number, add_step, add_edge, label_number, label_step, add_label, open_number, open_plan, plan_number, blank, done, refused_at, no_edge, no_label, with_edge, with_label, answer_number}
-use Rattle.plan.specs.Calls.{Call, edge, label, seal, call, edge_at, label_at, edge_call, label_call, after, and_then, build_edges, build_labels, build_again}
+use borrow.Author.Tests.{eqb-false}
+use Rattle.plan.specs.Build.{pick, kind_at, kind_number, gap_of, fresh_edge, read_edge, has_edge, edge_of, edge_step, change_number, add_step, add_edge, label_number, add_label, open_number, open_plan, plan_number, blank, done, refused_at, with_edge, with_label, answer_number}
+use Rattle.plan.specs.Calls.{Call, call, edge_at, label_at, edge_call, label_call, after, and_then, build_edges, build_labels}
 use Rattle.plan.specs.declared.Kind.{Kind}
 use Rattle.plan.specs.declared.Kind.TheVariants.{Stay, Any, Up, Down, Abs}
 use Rattle.plan.specs.declared.KindRead.TheVariants.{Of}
@@ -27,7 +26,7 @@ use Rattle.plan.specs.declared.EdgeStep.TheVariants.{AddEdge, RefuseEdge}
 use Rattle.plan.specs.declared.Answer.{Answer}
 use Rattle.plan.specs.declared.Answer.TheVariants.{Done, Refused}
 use Rattle.plan.proofs.Kept.{step_read, edge_back}
-use Rattle.plan.proofs.Cases.{AddedEdge, edge_cases, AddedLabel, label_cases}
+use Rattle.plan.proofs.Cases.{AddedEdge, edge_cases, label_cases}
 use Rattle.plan.proofs.Again.{build_number}
 use Rattle.files.specs.Cleared.{edges_made, labels_made}
 use Rattle.files.proofs.Back.{no_answer, open_answer}

@@ -2,9 +2,9 @@
 -- Assumes nothing.
 use Prim.Native.Nat.{ℕ, zero, suc, ◌+◌, ◌-◌, ◌*◌, ◌≤◌, ◌<◌}
 use native.Mathlib.Omega.{arith}
-use mathlib.Core.Path.{◌≡◌, refl, sym, ◌∙◌, ap, ap₂}
-use mathlib.Core.Bool.{Bool, true, false}
-use mathlib.Core.List.{List, [], ◌∷◌, ◌++◌}
+use mathlib.Core.Path.{◌≡◌, refl, sym, ◌∙◌, ap}
+use mathlib.Core.Bool.{true}
+use mathlib.Core.List.{List, ◌++◌}
 use lib.ListN.{length, get_or, set, take, drop, replicate, take-append-drop, length-drop, length-replicate, get_or-replicate}
 use lib.Seq.{set_at, take-suc, append_snoc, length-take-le, ext_get_or, get_or-drop}
 use lib.IntN.{ℤ}
@@ -13,7 +13,7 @@ use mir.Val.{SFits}
 use Rattle.readings.specs.Codec.{readings_of}
 use Rattle.readings.specs.Trips.{All16}
 use Rattle.plan.specs.Build.{plan_number, no_edge, no_label}
-use Rattle.plan.specs.Calls.{edge_at, label_at, Made}
+use Rattle.plan.specs.Calls.{Made}
 use Rattle.plan.specs.declared.Plan.{Plan}
 use Rattle.plan.specs.declared.Answer.TheVariants.{Done}
 use Rattle.plan.proofs.Cases.{Sized, made_passing}
@@ -22,7 +22,7 @@ use Rattle.files.specs.Cleared.{edges_made, labels_made, cleared}
 use Rattle.files.specs.Reader.{plan_file, readings_part}
 use Rattle.files.specs.Writer.{head_bytes, write_number}
 use Rattle.files.specs.Sizes.{counts_small, write_room}
-use Rattle.files.proofs.Again.{Shape, edges_shape, labels_shape, bytes, written_then_read, readings_then_read}
+use Rattle.files.proofs.Again.{edges_shape, labels_shape, bytes, written_then_read, readings_then_read}
 
 -- the first i of es, and d in the rest of n places
 front_next : {A : Type 0} (es l : List A) (d : A) (n i k : ℕ) → i ≡ k → i < n → i < length es → l ≡ take i es ++ replicate (n - i) d → set l k (get_or es i d) ≡ take (suc i) es ++ replicate (n - suc i) d

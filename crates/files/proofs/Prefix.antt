@@ -1,32 +1,28 @@
 -- Reading a plan file looks at its first 9,011 bytes only: the longest file has 9,008 bytes, and three more decide what stands behind it.
 -- Assumes nothing.
-use Prim.Native.Nat.{ℕ, zero, suc, ◌+◌, ◌-◌, ◌*◌, ◌≤◌, ◌<◌}
+use Prim.Native.Nat.{ℕ, zero, suc, ◌+◌, ◌-◌, ◌≤◌, ◌<◌}
 use native.Mathlib.Omega.{arith}
 use mathlib.Core.Path.{◌≡◌, refl, sym, ◌∙◌, ap, ap₂}
 use mathlib.Core.Bool.{Bool, true, false}
-use mathlib.Core.List.{List, [], ◌∷◌, ◌++◌}
+use mathlib.Core.List.{List, ◌++◌}
 use mathlib.Core.Logic.{◌⊎◌, inl, inr}
 use lib.Dec.{eqb}
 use lib.ListN.{length, take, length-take}
 use lib.Seq.{length-take-le}
-use borrow.Author.Tests.{eqb-true, eqb-false}
+use borrow.Author.Tests.{eqb-false}
 use Rattle.integers.specs.Pick.{pick}
 use Rattle.readings.specs.Trips.{AllBytes}
-use Rattle.plan.specs.Build.{seal_plan}
 use Rattle.plan.specs.declared.Plan.{Plan}
-use Rattle.plan.specs.declared.Built.{Built}
 use Rattle.plan.specs.declared.Answer.{Answer}
 use Rattle.plan.specs.declared.Answer.TheVariants.{Done, Refused}
-use Rattle.plan.proofs.Cases.{Passing}
-use Rattle.fields.specs.Fields.{row_of, field_at, field_number, part_of, field}
+use Rattle.fields.specs.Fields.{row_of, field_at, part_of, field}
 use Rattle.fields.specs.Laws.{FieldRead, field_is, field_bytes, part_bytes}
 use Rattle.fields.specs.Tags.{at_0, at_1, has_length}
 use Rattle.fields.specs.Prefix.{body_short, same_field, same_closed, same_end, same_part}
 use Rattle.fields.specs.declared.Field.{Field}
 use Rattle.fields.specs.declared.Field.TheVariants.{Body, Wrong}
 use Rattle.files.specs.declared.FileRead.{FileRead}
-use Rattle.files.specs.Reader.{refused_file, grid_number, open_bodies, entry_body, on_answer, at_end, finish_file, on_field, entries_from, on_opened, on_states, on_grid, plan_file}
-use Rattle.files.specs.Writer.{head_bytes}
+use Rattle.files.specs.Reader.{refused_file, grid_number, open_bodies, entry_body, on_answer, finish_file, on_field, entries_from, on_opened, on_states, on_grid, plan_file}
 use Rattle.files.specs.Sizes.{counts_small, head_length}
 use Rattle.files.proofs.Back.{Entered, entered, opened_back, tags}
 

@@ -1,13 +1,13 @@
 -- Storing the fields of a plan one after another, and the numbers of its writer.
 -- Assumes nothing.
-use Prim.Native.Nat.{ℕ, suc, ◌+◌, ◌-◌, ◌*◌, ◌/◌, ◌%◌, ◌≤◌, ◌<◌}
+use Prim.Native.Nat.{ℕ, ◌+◌, ◌-◌, ◌*◌, ◌/◌, ◌%◌, ◌≤◌, ◌<◌}
 use native.Mathlib.Omega.{arith}
 use native.Mathlib.Numerals.{add-one}
-use mathlib.Core.Path.{◌≡◌, refl, sym, ◌∙◌, ap, ap₂}
+use mathlib.Core.Path.{◌≡◌, sym, ◌∙◌, ap, ap₂}
 use mathlib.Core.Bool.{Bool, true, false}
 use mathlib.Core.List.{List, [], ◌∷◌, ◌++◌, append-nil, append_assoc}
 use lib.ListN.{length, get_or, take, drop, length-append, length-drop, drop_of_length-le}
-use lib.Seq.{take_all, drop-drop, take-append-le}
+use lib.Seq.{take_all, drop-drop}
 use lib.IntN.{ℤ}
 use borrow.Rule.Slice.PartMut.{mid_of, put_mid}
 use borrow.Author.Tests.{ne_eqb, le-leb, lt-leb}
@@ -21,7 +21,7 @@ use Rattle.plan.specs.declared.Plan.{Plan}
 use Rattle.fields.specs.Fields.{put_at, field}
 use Rattle.fields.specs.Put.{put_none, put_more, put_fits, put_length}
 use Rattle.files.specs.Writer.{edge_field, label_field, grid_field, states_field, edges_bytes, labels_bytes, head_bytes, plan_bytes, plan_length, Room, write_number}
-use Rattle.files.specs.Sizes.{edges_length, labels_length, head_length}
+use Rattle.files.specs.Sizes.{edges_length, labels_length}
 
 module _ (out : List ℕ) (at : ℕ) where
   pub no_edges : (es : List Edge) → at ≤ length out → out ≡ put_at out at (edges_bytes es 0)

@@ -1,5 +1,5 @@
 -- Reading a plan file: grid, states, edges, labels, readings.
-use Rattle.std.specs.Prelude.{ℕ, zero, suc, ◌+◌, ◌*◌, List, Bool, true, false, length, get_or, eqb, ℤ, pos}
+use Rattle.std.specs.Prelude.{ℕ, zero, suc, ◌+◌, List, length, get_or, eqb, ℤ, pos}
 use Rattle.integers.specs.Pick.{pick}
 use Rattle.integers.specs.Bytes.{signed16}
 use Rattle.plan.specs.Build.{grid_ok, open_plan, add_edge, add_label, seal_plan, blank, refused_at}

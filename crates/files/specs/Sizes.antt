@@ -1,19 +1,19 @@
 -- How long the parts of a plan file are.
 -- Assumes nothing.
-use Rattle.std.specs.Prelude.{ℕ, zero, suc, ◌+◌, ◌-◌, ◌*◌, ◌≤◌, ◌<◌, ◌≡◌, refl, Bool, true, false, List, [], ◌∷◌, ◌++◌, eqb, leb, length, get_or, ℤ}
-use Rattle.std.proofs.Common.{arith, add-one, sym, ◌∙◌, ap, ap₂, length-append, eqb-true, leb-true, leb-false}
+use Rattle.std.specs.Prelude.{ℕ, zero, suc, ◌+◌, ◌-◌, ◌*◌, ◌≤◌, ◌<◌, ◌≡◌, refl, Bool, true, false, List, eqb, leb, length, get_or, ℤ}
+use Rattle.std.proofs.Common.{arith, sym, ◌∙◌, ap, length-append, eqb-true, leb-true, leb-false}
 use Rattle.std.proofs.lemmas.Bool.{eqb-false}
 use Rattle.integers.specs.Pick.{pick}
 use Rattle.readings.specs.Codec.{bytes_of}
 use Rattle.plan.specs.Counts.{count_ok}
 use Rattle.readings.specs.Trips.{bytes_length}
-use Rattle.plan.specs.Build.{first_below, plan_number, entry_number, edges_number, label_number, labels_number, no_edge, no_label}
+use Rattle.plan.specs.Build.{first_below, plan_number, edges_number, labels_number, no_edge, no_label}
 use Rattle.plan.specs.declared.Edge.{Edge}
 use Rattle.plan.specs.declared.Label.{Label}
 use Rattle.plan.specs.declared.Plan.{Plan}
 use Rattle.plan.proofs.Below.{first_found}
 use Rattle.plan.proofs.Steps.{entry_full, label_full}
-use Rattle.plan.proofs.Kept.{Parts, parts}
+use Rattle.plan.proofs.Kept.{parts}
 use Rattle.files.specs.Writer.{edge_field, label_field, edges_bytes, labels_bytes, head_bytes, plan_bytes, plan_length, write_number, Room}
 
 pub edges_length : (es : List Edge) (n : ℕ) → length (edges_bytes es n) ≡ 9 * n

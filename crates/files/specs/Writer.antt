@@ -1,5 +1,5 @@
 -- Writing a plan file.
-use Rattle.std.specs.Prelude.{ℕ, zero, suc, ◌+◌, ◌*◌, ◌/◌, ◌%◌, ◌≤◌, List, [], ◌∷◌, ◌++◌, Bool, true, false, ◌≡◌, length, get_or, leb, eqb, ℤ}
+use Rattle.std.specs.Prelude.{ℕ, zero, suc, ◌+◌, ◌*◌, ◌/◌, ◌%◌, ◌≤◌, List, [], ◌∷◌, ◌++◌, true, ◌≡◌, length, get_or, leb, eqb, ℤ}
 use Rattle.integers.specs.Pick.{pick}
 use Rattle.readings.specs.Codec.{bytes_of}
 use Rattle.plan.specs.Counts.{count_ok}

@@ -1,5 +1,5 @@
 -- Readings of 16 bits, two bytes each.
-use Rattle.std.specs.Prelude.{ℕ, ◌+◌, ◌*◌, ◌/◌, ◌%◌, List, [], ◌∷◌, ◌++◌, Bool, true, false, length, get_or, drop, leb, eqb, ℤ}
+use Rattle.std.specs.Prelude.{ℕ, ◌*◌, ◌/◌, ◌%◌, List, [], ◌∷◌, ◌++◌, length, drop, leb, eqb, ℤ}
 use Rattle.integers.specs.Pick.{pick}
 use Rattle.plan.specs.Counts.{count_ok}
 use Rattle.integers.specs.Bytes.{word, signed16, bits16}

@@ -1,11 +1,11 @@
 -- Readings and their bytes are one to one.
 -- Assumes nothing.
-use Rattle.std.specs.Prelude.{ℕ, zero, suc, ◌+◌, ◌-◌, ◌*◌, ◌/◌, ◌%◌, ◌<◌, ◌≤◌, ◌≡◌, refl, List, [], ◌∷◌, ◌++◌, Bool, true, false, length, get_or, take, drop, leb, eqb, ℤ, pos}
-use Rattle.std.proofs.Common.{arith, sym, ◌∙◌, ap, ap₂, length-append, take_at, SFits, le-leb, leb-true, eqb-true, ne_eqb}
+use Rattle.std.specs.Prelude.{ℕ, zero, suc, ◌*◌, ◌/◌, ◌%◌, ◌<◌, ◌≤◌, ◌≡◌, refl, List, [], ◌∷◌, ◌++◌, Bool, true, false, length, get_or, take, drop, leb, eqb, ℤ, pos}
+use Rattle.std.proofs.Common.{arith, ◌∙◌, ap, ap₂, take_at, SFits, le-leb, leb-true, eqb-true}
 use Rattle.std.specs.Int.{w16}
 use Rattle.std.proofs.lemmas.Bool.{eqb-false}
 use Rattle.integers.specs.Pick.{pick}
-use Rattle.integers.specs.Bytes.{word, signed16, bits16, word_high, word_low, word_back, signed_bits, bits_signed, bits_below}
+use Rattle.integers.specs.Bytes.{word, signed16, bits16, word_high, word_low, word_back, signed_bits, bits_signed}
 use Rattle.readings.specs.Codec.{readings_of, bytes_of, decode_number, decoded, encode_number, encoded}
 use Rattle.plan.specs.Counts.{count_ok}
 
