@@ -3,11 +3,11 @@ use Rattle.std.specs.Prelude.{◌≡◌, ℕ, ◌+◌, ◌-◌, ◌*◌, ◌%◌
 use Rattle.std.proofs.Common.{sym, inl, inr, ⊎_elim, mul-le-mul, arith}
 use Rattle.quadratic.specs.Quad.{Quad, Fine, none, absent, count_limit, cost_limit}
 use Rattle.quadratic.specs.Fine.{quad_eq}
-use Rattle.curve.specs.Pieces.{piece, Built, Formed, Held, Same, Apart, Copyable}
+use Rattle.curve.specs.Pieces.{piece, Built, Same, Apart, Copyable}
 use Rattle.curve.specs.Lists.{closed, count_le, count_most_lem}
 use Rattle.curve.specs.Lows.{costs}
 use Rattle.curve.specs.Curve.{Curve, Limits, curve_wider, curve_copyable}
-use Rattle.edges.specs.Edge.{Sound, Hand, Into, Ready}
+use Rattle.edges.specs.Edge.{Sound, Ready}
 
 -- a list whose costs are none or below 2^53, with room for 3 changes more
 abbrev pub Listed : List ℕ → ℕ → ℕ → ℕ → Type 0

@@ -4,12 +4,12 @@
 // slots 0 to 2 or slots 3 to 5, goes to the other half. Constants are mostly low squares, penalties 0 or 1 and readings near, so that changes
 // often decide between equal costs.
 #![tactic(auto)]
+
 mod direct;
 mod list;
 mod run;
 
 use curve::{Low, Rank};
-
 
 // The next of a fixed sequence of numbers below 2^31.
 fn random(x: u64) -> u64 {
