@@ -3,10 +3,10 @@
 use Prim.Native.Nat.{ℕ, ◌+◌, ◌*◌, ◌/◌, ◌%◌, ◌≤◌, ◌<◌}
 use native.Mathlib.Omega.{arith}
 use native.Mathlib.Nat.{add-zero}
-use mathlib.Core.Path.{◌≡◌, refl, sym, ◌∙◌, ap, ap₂}
+use mathlib.Core.Path.{◌≡◌, refl, sym, ◌∙◌, ap}
 use mathlib.Core.Bool.{Bool, true, false}
 use mathlib.Core.List.{List}
-use lib.Dec.{T, ltb}
+use lib.Dec.{T}
 use lib.ListN.{length, get_or}
 use lib.IntN.{ℤ, pos, negsuc, nat_abs}
 use lib.Signed.{lt_z, le_z, non_neg}
@@ -14,7 +14,7 @@ use mir.Syntax.{w32}
 use mir.Val.{Fits, SFits}
 use borrow.Author.Tests.{ltb-true, eq-eqb, ne_eqb, le-leb, lt-leb}
 use Rattle.answers.specs.Runs.{is_refusal, run_fits, whole, level_fits, last_before, number_at, whole_at, run_ok, runs_ok}
-use Rattle.answers.specs.Writer.{answer_length, answer_number, refusal_number}
+use Rattle.answers.specs.Writer.{answer_number, refusal_number}
 
 pub whole_below : (x : ℤ) → lt_z x (pos 0) ≡ true → 65536 ≡ whole x
 unfolding whole

@@ -2,24 +2,24 @@
 -- Assumes nothing.
 use Prim.Native.Nat.{ℕ, zero, suc, ◌+◌, ◌-◌, ◌*◌, ◌≤◌, ◌<◌}
 use native.Mathlib.Omega.{arith}
-use mathlib.Core.Path.{◌≡◌, refl, sym, ◌∙◌, ap, ap₂}
+use mathlib.Core.Path.{◌≡◌, refl, ◌∙◌, ap, ap₂}
 use mathlib.Core.Bool.{Bool, true, false}
-use mathlib.Core.List.{List, [], ◌∷◌, ◌++◌}
+use mathlib.Core.List.{List}
 use lib.Dec.{eqb}
 use lib.ListN.{length, get_or, take, length-take}
 use borrow.Author.Tests.{eqb-true}
 use Rattle.integers.specs.Pick.{pick}
-use Rattle.fields.specs.Fields.{field_at, field_number, part_of, word_at, number8}
-use Rattle.fields.specs.Laws.{FieldRead, field_is}
+use Rattle.fields.specs.Fields.{field_at, part_of, word_at, number8}
+use Rattle.fields.specs.Laws.{field_is}
 use Rattle.fields.specs.Prefix.{body_short, same_field, same_closed, same_end, same_part}
 use Rattle.fields.specs.declared.Field.{Field}
 use Rattle.fields.specs.declared.Field.TheVariants.{Body, Wrong}
 use Rattle.answers.specs.declared.AnswerRead.{AnswerRead}
-use Rattle.answers.specs.declared.AnswerRead.TheVariants.{Runs, Refusal, Unread}
-use Rattle.answers.specs.Runs.{is_refusal, run_fits}
+use Rattle.answers.specs.declared.AnswerRead.TheVariants.{Runs, Unread}
+use Rattle.answers.specs.Runs.{run_fits}
 use Rattle.answers.specs.Reader.{body_fits, body_last, on_run, runs_from, refusal_read, on_head, answer_file}
 use Rattle.answers.specs.Sizes.{run_size, cost_size}
-use Rattle.answers.specs.Rules.{Kept, run_kept}
+use Rattle.answers.specs.Rules.{run_kept}
 
 -- how many bytes of a file a reader needs at most
 abbrev pub answer_bound : ℕ

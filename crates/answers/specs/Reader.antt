@@ -1,5 +1,5 @@
 -- Reading an answer file: a cost and its runs, or a refusal.
-use Rattle.std.specs.Prelude.{ℕ, zero, suc, ◌+◌, ◌*◌, List, [], ◌∷◌, ◌++◌, Bool, true, false, length, get_or, drop, leb, eqb, ℤ, pos}
+use Rattle.std.specs.Prelude.{ℕ, zero, suc, ◌+◌, ◌*◌, List, [], ◌∷◌, ◌++◌, Bool, false, length, get_or, drop, leb, eqb, ℤ, pos}
 use Rattle.integers.specs.Pick.{pick}
 use Rattle.integers.specs.Bytes.{signed16}
 use Rattle.fields.specs.Fields.{field_at, field_number, part_of, word_at, number8}

@@ -1,16 +1,15 @@
 -- What runs that keep the rules are.
 -- Assumes nothing.
-use Prim.Native.Nat.{ℕ, zero, suc, ◌+◌, ◌-◌, ◌*◌, ◌≤◌, ◌<◌}
-use Rattle.std.proofs.Common.{arith, add-one, sym, ◌∙◌, SFits}
+use Prim.Native.Nat.{ℕ, zero, suc, ◌+◌, ◌≤◌, ◌<◌}
+use Rattle.std.proofs.Common.{arith, add-one, ◌∙◌, SFits}
 use Rattle.std.specs.Prelude.{◌≡◌, Bool, List, leb, ltb, ℤ, pos, negsuc}
 use Rattle.std.proofs.Math.Path.{refl, ap}
 use Rattle.std.proofs.Math.Bool.{true, false}
 use Rattle.std.proofs.Math.Dec.{eqb}
-use Rattle.std.specs.Int.Signed.{le_z, lt_z}
 use Rattle.std.specs.Int.{w16}
-use borrow.Author.Tests.{eqb-true, eqb-false, leb-true, ltb-false, eq-eqb, ne_eqb, le-leb, le-ltb}
+use borrow.Author.Tests.{eqb-true, eqb-false, leb-true, ltb-false, le-leb, le-ltb}
 use Rattle.integers.specs.Pick.{pick}
-use Rattle.answers.specs.Runs.{run_fits, whole, level_fits, number_at, whole_at, last_before, run_ok, runs_ok}
+use Rattle.answers.specs.Runs.{run_fits, level_fits, number_at, whole_at, last_before, run_ok, runs_ok}
 
 clash : {Q : Type 0} {b : Bool} → b ≡ false → b ≡ true → Q
 clash p q = let z : ◌≡◌ {A = ℕ} 0 1 = cc in absurd (omega arith)

@@ -1,5 +1,5 @@
 -- Writing an answer file.
-use Rattle.std.specs.Prelude.{ℕ, zero, suc, ◌+◌, ◌*◌, ◌/◌, ◌%◌, List, [], ◌∷◌, ◌++◌, Bool, true, false, length, leb, eqb, ℤ}
+use Rattle.std.specs.Prelude.{ℕ, zero, suc, ◌+◌, ◌*◌, ◌/◌, ◌%◌, List, [], ◌∷◌, ◌++◌, length, leb, eqb, ℤ}
 use Rattle.integers.specs.Pick.{pick}
 use Rattle.integers.specs.Bytes.{bits16}
 use Rattle.fields.specs.Fields.{field, bytes8}

@@ -1,6 +1,7 @@
 // The edges and labels of a plan as numbers in a lent list, one number each, and how many there are. A plan is handed on by value, which copies its
 // 672 bytes at each call; what a search looks up at every reading stands in such a list instead, so that a step reads nothing of the plan itself.
 #![tactic(auto)]
+
 ghost use Rattle.std.specs.Prelude.{◌≡◌, ◌+◌, ◌<◌, length, get_or};
 ghost use Rattle.coded.specs.Coded.{kind_with, edge_in, label_in, edge_number, label_number, EdgesFrom, LabelsFrom, Numbered, Written};
 

@@ -1,14 +1,14 @@
 -- Division toward zero, and what rounding down takes from it. Assumes nothing.
 use mathlib.Core.Path.{◌≡◌, refl}
-use Prim.Native.Nat.{ℕ, zero, suc, ◌+◌, ◌*◌, ◌/◌, ◌%◌, ◌^◌, ◌≤◌, ◌<◌}
-use native.Mathlib.Nat.{div-add-mod', mod-lt, mul-le-mul_left, mul-le-mul_right}
+use Prim.Native.Nat.{ℕ, zero, suc, ◌/◌, ◌%◌, ◌<◌}
+use native.Mathlib.Nat.{div-add-mod', mod-lt, mul-le-mul_left}
 use native.Mathlib.Omega.{arith}
 use lib.IntN.{ℤ, pos, negsuc, ◌+ℤ◌, ◌-ℤ◌, ◌*ℤ◌}
-use lib.Signed.{◌≤ℤ◌, ◌<ℤ◌, quot_z, rem_z, mag}
+use lib.Signed.{◌≤ℤ◌, ◌<ℤ◌, quot_z, rem_z}
 use mir.Syntax.{Width, w64}
-use mir.Val.{SFits, of_z, hbits}
-use Rattle.integers.specs.Rep.{Rep, iz, nz, mz, neg, ◌⊕◌, ◌⊖◌, ◌⊗◌, eq_z, le_z_of, lt_z_of, le_n, lt_n, sfits_of, by_gap⁺, le_or_lt_z}
-use mathlib.Core.Logic.{◌⊎◌, ⊎_elim}
+use mir.Val.{SFits, of_z}
+use Rattle.integers.specs.Rep.{iz, nz, mz, neg, ◌⊕◌, ◌⊖◌, ◌⊗◌, eq_z, le_z_of, lt_z_of, le_n, lt_n, sfits_of, by_gap⁺, le_or_lt_z}
+use mathlib.Core.Logic.{⊎_elim}
 use Rattle.integers.specs.Floor.{floor_div}
 
 -- z is quotient times divisor and remainder

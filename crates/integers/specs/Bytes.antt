@@ -1,7 +1,7 @@
 -- Numbers of 16 bits as two bytes, the high one first; signed ones in two's complement.
 -- Assumes nothing.
-use Rattle.std.specs.Prelude.{ℕ, zero, suc, ◌+◌, ◌-◌, ◌*◌, ◌/◌, ◌%◌, ◌<◌, ◌≤◌, ◌≡◌, refl, ltb, ℤ, pos, negsuc, ◌-ℤ◌}
-use Rattle.std.proofs.Common.{arith, sym, ◌∙◌, ap, ⊎_elim, SFits, lt-ltb, le-ltb}
+use Rattle.std.specs.Prelude.{ℕ, suc, ◌+◌, ◌-◌, ◌*◌, ◌/◌, ◌%◌, ◌<◌, ◌≤◌, ◌≡◌, ltb, ℤ, pos, negsuc, ◌-ℤ◌}
+use Rattle.std.proofs.Common.{arith, ◌∙◌, ap, ⊎_elim, SFits, lt-ltb, le-ltb}
 use Rattle.std.specs.Int.{w16}
 use Rattle.integers.specs.Pick.{pick}
 use Rattle.integers.specs.Rep.{le_or_lt}

@@ -1,5 +1,5 @@
 -- Division of signed numbers, rounded down. Assumes nothing.
-use Rattle.std.specs.Prelude.{ℕ, zero, suc, ◌/◌, ℤ, pos, negsuc}
+use Rattle.std.specs.Prelude.{zero, suc, ◌/◌, ℤ, pos, negsuc}
 
 -- n / d rounded down, since −(a + 1) / d lies below −(a / d) and at or above −(a / d) − 1; 0 where d is not above zero
 unfoldable pub floor_div : ℤ → ℤ → ℤ

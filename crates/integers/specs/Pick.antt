@@ -1,5 +1,5 @@
 -- A choice by a test, and the outcome of a call that may be refused. Assumes nothing.
-use Rattle.std.specs.Prelude.{ℕ, ◌≡◌, refl, Bool, true, false, eqb}
+use Rattle.std.specs.Prelude.{ℕ, ◌≡◌, Bool, true, false, eqb}
 use Rattle.std.proofs.Common.{sym, ne_eqb}
 
 -- the first where the test holds, else the second

@@ -3,20 +3,19 @@
 use Prim.Native.Nat.{ℕ, zero, suc, ◌+◌, ◌-◌, ◌≤◌, ◌<◌}
 use native.Mathlib.Omega.{arith}
 use native.Mathlib.Numerals.{add-one}
-use mathlib.Core.Path.{◌≡◌, refl, sym, ◌∙◌, ap, ap₂, subst}
+use mathlib.Core.Path.{◌≡◌, refl, sym, ◌∙◌, ap}
 use mathlib.Core.Bool.{Bool, true, false}
 use mathlib.Core.List.{List}
 use mathlib.Core.Logic.{◌⊎◌, inl, inr, ⊎_elim}
 use lib.Dec.{leb, ltb, eqb}
-use lib.ListN.{length, get_or, set, replicate, length-set}
+use lib.ListN.{length, get_or, set, length-set}
 use lib.Seq.{get_or-set_same, get_or-set_other}
-use borrow.Author.Tests.{eqb-true, eqb-false, leb-true, leb-false, le-leb, ne_eqb}
+use borrow.Author.Tests.{eqb-true, eqb-false, leb-true, leb-false, ne_eqb}
 use Rattle.plan.specs.declared.Kind.{Kind}
 use Rattle.plan.specs.declared.Kind.TheVariants.{Stay, Any, Up, Down, Abs}
 use Rattle.plan.specs.declared.KindRead.{KindRead}
 use Rattle.plan.specs.declared.KindRead.TheVariants.{Of, Wrong}
 use Rattle.plan.specs.declared.Edge.{Edge}
-use Rattle.plan.specs.declared.Label.{Label}
 use Rattle.plan.specs.declared.EdgeRead.{EdgeRead}
 use Rattle.plan.specs.declared.EdgeRead.TheVariants.{Is, Not}
 use Rattle.plan.specs.declared.EdgeStep.{EdgeStep}
@@ -25,12 +24,12 @@ use Rattle.plan.specs.declared.Plan.{Plan}
 use Rattle.plan.specs.declared.Built.{Built}
 use Rattle.plan.specs.declared.Answer.{Answer}
 use Rattle.plan.specs.declared.Answer.TheVariants.{Done, Refused}
-use Rattle.plan.specs.Build.{pick, first_below, kind_of, with_kind, kind_number, gap_of, has_edge, read_edge, fresh_edge, edge_of, edge_step, edge_step_number, entry_number, edges_number, label_number, labels_number, open_number, open_plan, plan_number, change_number, or_else, answer_number, no_edge, no_label, blank, done, refused_at, with_edge, with_label, closed, add_edge, add_step, add_label, seal_plan}
-use Rattle.plan.specs.Calls.{edge_at, label_at, Call, edge, label, seal, call, Made, opened, called, edge_call, label_call, after, and_then, build_edges, build_labels, build_again, SameEntries}
+use Rattle.plan.specs.Build.{pick, first_below, kind_of, with_kind, kind_number, gap_of, has_edge, read_edge, fresh_edge, edge_of, edge_step, edge_step_number, entry_number, edges_number, label_number, labels_number, open_number, plan_number, change_number, or_else, answer_number, no_edge, no_label, blank, done, refused_at, with_edge, with_label, add_step}
+use Rattle.plan.specs.Calls.{edge_at, label_at, Call, call, Made, opened, called, edge_call, label_call, after, and_then, build_edges, build_labels, build_again, SameEntries}
 use Rattle.plan.proofs.Below.{first_none, first_found}
-use Rattle.plan.proofs.Steps.{entry_full, label_full, edge_decided, label_stopped, label_added, seal_done, open_refused, open_done, change_none}
-use Rattle.plan.proofs.Kept.{by_kind, by_edge_lem, never, step_read, step_same, edges_same, label_same, labels_same, Parts, parts, whole}
-use Rattle.plan.proofs.Cases.{Passing, Sized, blank_passing, call_keeps, number_same}
+use Rattle.plan.proofs.Steps.{entry_full, label_full, edge_decided, label_stopped, label_added, open_refused, open_done, change_none}
+use Rattle.plan.proofs.Kept.{by_kind, by_edge_lem, never, step_read, step_same, label_same, Parts, parts, whole}
+use Rattle.plan.proofs.Cases.{Sized, number_same}
 
 -- ---- a run of calls, for edges and for labels alike
 

@@ -1,14 +1,14 @@
 -- What each call does: it is refused and changes nothing, or it makes the stated plan. Assumes nothing.
-use Prim.Native.Nat.{ℕ, zero, suc, ◌+◌, ◌≤◌, ◌<◌}
+use Prim.Native.Nat.{ℕ}
 use native.Mathlib.Omega.{arith}
-use mathlib.Core.Path.{◌≡◌, refl, sym, ◌∙◌, ap}
+use mathlib.Core.Path.{◌≡◌, refl, ◌∙◌, ap}
 use mathlib.Core.Bool.{Bool, true, false}
 use mathlib.Core.Logic.{◌⊎◌, inl, inr, ⊎_elim}
 use lib.Dec.{ltb, eqb}
 use lib.IntN.{ℤ}
 use mathlib.Core.List.{List}
-use lib.ListN.{length, set, replicate, length-set, length-replicate}
-use borrow.Author.Tests.{eqb-true, eqb-false, ltb-false}
+use lib.ListN.{length, length-set, length-replicate}
+use borrow.Author.Tests.{eqb-true, ltb-false}
 use Rattle.plan.specs.declared.Edge.{Edge}
 use Rattle.plan.specs.declared.Label.{Label}
 use Rattle.plan.specs.declared.Plan.{Plan}
@@ -16,10 +16,10 @@ use Rattle.plan.specs.declared.Built.{Built}
 use Rattle.plan.specs.declared.Answer.TheVariants.{Done, Refused}
 use Rattle.plan.specs.declared.EdgeStep.{EdgeStep}
 use Rattle.plan.specs.declared.EdgeStep.TheVariants.{AddEdge, RefuseEdge}
-use Rattle.plan.specs.Build.{pick, no_edge, no_label, blank, refused_at, done, edge_step, label_number, open_number, open_plan, plan_number, change_number, add_edge, add_step, add_label, label_step, with_edge, with_label, seal_plan, closed, edges_number, labels_number}
-use Rattle.plan.specs.Calls.{Call, edge, label, seal, call, Made, opened, called, SameEntries, edge_at, label_at}
+use Rattle.plan.specs.Build.{no_edge, no_label, blank, refused_at, done, edge_step, label_number, open_number, open_plan, plan_number, change_number, add_edge, add_label, with_edge, with_label, seal_plan, closed, edges_number, labels_number}
+use Rattle.plan.specs.Calls.{Call, edge, label, seal, call, Made, opened, called, SameEntries}
 use Rattle.plan.proofs.Below.{first_none}
-use Rattle.plan.proofs.Kept.{or_zero, Parts, parts, whole, plan_kept, label_kept, edges_same, labels_same}
+use Rattle.plan.proofs.Kept.{whole, plan_kept, label_kept, edges_same, labels_same}
 
 pub record AddedEdge (p : Plan) (f t k g c : ℕ) : Type 0 where
   pub change : change_number p ≡ 0

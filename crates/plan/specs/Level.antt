@@ -1,5 +1,5 @@
 -- Which level may follow a level at a boundary, for each kind of edge.
-use Rattle.std.specs.Prelude.{ℕ, Bool, ◌&&◌, not, leb, ℤ, pos, nat_abs, ◌+ℤ◌, ◌-ℤ◌}
+use Rattle.std.specs.Prelude.{Bool, ◌&&◌, not, leb, ℤ, pos, nat_abs, ◌+ℤ◌, ◌-ℤ◌}
 use Rattle.std.specs.Int.Signed.{le_z}
 use Rattle.plan.specs.declared.Kind.{Kind}
 use Rattle.plan.specs.declared.Kind.TheVariants.{Stay, Any, Up, Down, Abs}

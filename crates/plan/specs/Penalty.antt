@@ -1,5 +1,5 @@
 -- The sixteen penalties.
-use Rattle.std.specs.Prelude.{ℕ, List, [], ◌∷◌, Bool, true, false, ◌&&◌, leb, get_or}
+use Rattle.std.specs.Prelude.{ℕ, List, [], ◌∷◌, Bool, true, ◌&&◌, leb, get_or}
 
 -- "The sixteen penalties, class 0 to class 15, are .."
 abbrev pub penalties : List ℕ

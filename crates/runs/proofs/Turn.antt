@@ -10,7 +10,7 @@ use lib.Signed.{mag}
 use mir.Facts.{to_z-of_z}
 use mir.Syntax.{w32}
 use mir.Val.{SFits, to_z, of_z, hbits}
-use lib.ListN.{length, get_or, set, take, drop, length-set, length-append, length-drop, get_or-append}
+use lib.ListN.{length, set, take, drop, length-set, length-append, length-drop, get_or-append}
 use lib.Seq.{sets, get_or-set_same, get_or-set_other, get_or-take, get_or-drop, get_or-append-add, length-take-le, ext_get_or}
 use Rattle.runs.specs.declared.Run.{Run}
 use Rattle.runs.specs.Runs.{five_of, PutTo, Put, place, runs_back, at, Swapped, SwappedTo, SwappedRuns, Turned, Reversed}

@@ -1,6 +1,6 @@
 -- Runs in a list of numbers, five a run. Assumes nothing.
 use Rattle.std.specs.Prelude.{◌≡◌, refl, ◌⊎◌, List, [], ◌∷◌, ◌++◌, reverse, ℕ, zero, suc, ◌+◌, ◌-◌, ◌*◌, ◌/◌, ◌%◌, ◌≤◌, ◌<◌, ℤ, pos, length, get_or, take, drop}
-use Rattle.std.proofs.Common.{sym, ◌∙◌, ap, inl, inr, ⊎_elim, arith, div-add-mod', mod-lt, length-append, length-drop, ext_get_or, get_or-append-add, get_or-drop}
+use Rattle.std.proofs.Common.{sym, ◌∙◌, ap, inl, inr, arith, div-add-mod', mod-lt, length-append, length-drop, ext_get_or, get_or-append-add, get_or-drop}
 use Rattle.std.proofs.Math.Decide.{dec_lt}
 use Rattle.std.proofs.lemmas.List.Edits.{sets}
 use Rattle.std.proofs.Math.ListN.{get_or-append}

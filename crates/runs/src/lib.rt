@@ -1,6 +1,7 @@
 // The runs of an answer in a list of numbers, five a run: written one after the other, then turned round, since a search finds the last
 // run first.
 #![tactic(auto)]
+
 ghost use Rattle.std.specs.Prelude.{◌+◌, ◌*◌, ◌≤◌, ◌<◌, length};
 ghost use Rattle.runs.specs.Runs.{Put, Swapped, SwappedRuns, Reversed};
 

@@ -1,7 +1,7 @@
 -- `curve::copy`: word for word, from where nothing is written. Assumes nothing.
 use mathlib.Core.Logic.{◌⊎◌}
 use mathlib.Core.Path.{◌≡◌, subst, sym}
-use Prim.Native.Nat.{ℕ, ◌+◌, ◌*◌, ◌≤◌}
+use Prim.Native.Nat.{ℕ, ◌+◌, ◌*◌, ◌≤◌, ◌<◌}
 use native.Mathlib.Omega.{arith}
 use lib.ListN.{length}
 use Rattle.curve.specs.Lists.{count_is}
@@ -53,7 +53,7 @@ apart : (c : After-count-n) → (c.args.f + 4 * c.count-n.result ≤ c.args.dst)
 apart c = subst (λ (n : ℕ). (c.args.f + 4 * n ≤ c.args.dst) ⊎ (c.args.dst + 4 * n ≤ c.args.f)) (sym (counted c)) c.requires.0.apart
 
 pub loop-i-preserved : goal.loop-i-preserved
-loop-i-preserved c = (omega arith, copying_more c.loop-i-test.true (omega (arith, roomy (goal.at.loop-i-preserved c).At-loop-i)) (apart (goal.at.loop-i-preserved c).After-count-n) c.loop-i.invariant.1)
+loop-i-preserved c = let h : c.loop-i.i < 4 * c.count-n.result = omega arith in (omega arith, copying_more h (omega (arith, roomy (goal.at.loop-i-preserved c).At-loop-i)) (apart (goal.at.loop-i-preserved c).After-count-n) c.loop-i.invariant.1)
 
 pub shape_of-ws : goal.shape_of-ws
 shape_of-ws c = c.loop-i.invariant.1.kept.size

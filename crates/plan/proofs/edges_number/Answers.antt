@@ -5,7 +5,6 @@ use borrow.Author.Tests.{eqb-false}
 use native.Mathlib.Nat.{le_antisymm}
 use native.Mathlib.Omega.{arith}
 use mathlib.Core.Path.{refl, ◌∙◌, sym}
-use Prim.Native.Nat.{◌-◌}
 use borrow.Author.Rules.{rules}
 use Rattle.plan.proofs.edges_number.Goals as goal
 

@@ -2,9 +2,7 @@ use native.Mathlib.Nat.{le_antisymm}
 use Rattle.plan.proofs.Below.{any_none, any_more, any_found}
 use Rattle.plan.specs.Build.{has_edge}
 use native.Mathlib.Omega.{arith}
-use mathlib.Core.Bool.{false}
 use mathlib.Core.Path.{◌∙◌, sym}
-use Prim.Native.Nat.{◌-◌}
 use borrow.Author.Rules.{rules}
 use Rattle.plan.proofs.has_edge.Goals as goal
 
