@@ -98,8 +98,7 @@ fn filled(f: Filled) -> Outcome
 }
 
 // The search of a plan over readings. The readings in the plan file itself are not looked at.
-#[unsafe(no_mangle)]
-pub extern "C" fn yeldaski_search(
+pub fn yeldaski_search(
     file: &[u8],
     readings: &[i16],
     workspace: &mut [u64],
@@ -119,8 +118,7 @@ pub extern "C" fn yeldaski_search(
 }
 
 // The least cost of what ends after these readings in the named state at the named level.
-#[unsafe(no_mangle)]
-pub extern "C" fn yeldaski_point(
+pub fn yeldaski_point(
     file: &[u8],
     readings: &[i16],
     state: u8,
@@ -140,8 +138,7 @@ pub extern "C" fn yeldaski_point(
 }
 
 // The least cost of each part of w readings of a long record, in the order of the start.
-#[unsafe(no_mangle)]
-pub extern "C" fn yeldaski_windows(
+pub fn yeldaski_windows(
     file: &[u8],
     record: &[i16],
     w: usize,
@@ -162,8 +159,7 @@ pub extern "C" fn yeldaski_windows(
 }
 
 // The least cost for each number of changes from 0 to `most`, in this order.
-#[unsafe(no_mangle)]
-pub extern "C" fn yeldaski_table(
+pub fn yeldaski_table(
     file: &[u8],
     readings: &[i16],
     most: usize,
@@ -184,8 +180,7 @@ pub extern "C" fn yeldaski_table(
 }
 
 // The readings of a plan file, decoded to the front of a list.
-#[unsafe(no_mangle)]
-pub extern "C" fn yeldaski_read_plan(file: &[u8], readings: &mut [i16]) -> Outcome
+pub fn yeldaski_read_plan(file: &[u8], readings: &mut [i16]) -> Outcome
     ensures answer { result ≡ read_outcome file.now (length readings.old) }
     ensures list { readings.new ≡ file_readings file.now readings.old }
 {
@@ -203,8 +198,7 @@ pub extern "C" fn yeldaski_read_plan(file: &[u8], readings: &mut [i16]) -> Outco
 }
 
 // The plan of a file with other readings, written as a file.
-#[unsafe(no_mangle)]
-pub extern "C" fn yeldaski_write_plan(file: &[u8], readings: &[i16], out: &mut [u8]) -> Outcome
+pub fn yeldaski_write_plan(file: &[u8], readings: &[i16], out: &mut [u8]) -> Outcome
     ensures answer { result ≡ rewritten file.now (length readings.now) (length out.old) }
     ensures list { out.new ≡ after_rewriting file.now readings.now out.old }
 {
@@ -218,8 +212,7 @@ pub extern "C" fn yeldaski_write_plan(file: &[u8], readings: &[i16], out: &mut [
 }
 
 // The cost and the runs of an answer file, or the refusal that it holds.
-#[unsafe(no_mangle)]
-pub extern "C" fn yeldaski_read_answer(file: &[u8], runs: &mut [i32]) -> Reply
+pub fn yeldaski_read_answer(file: &[u8], runs: &mut [i32]) -> Reply
     ensures answer { result ≡ reply_of (read_answer file.now (length runs.old)) }
     ensures list { runs.new ≡ filled file.now runs.old }
 {
@@ -247,8 +240,7 @@ pub extern "C" fn yeldaski_read_answer(file: &[u8], runs: &mut [i32]) -> Reply
 }
 
 // A cost with its runs, five numbers a run, written as an answer file.
-#[unsafe(no_mangle)]
-pub extern "C" fn yeldaski_write_answer(cost: u64, runs: &[i32], out: &mut [u8]) -> Outcome
+pub fn yeldaski_write_answer(cost: u64, runs: &[i32], out: &mut [u8]) -> Outcome
     ensures answer { result ≡ written_outcome (answer_written runs.now (length out.old)) }
     ensures list { out.new ≡ after_answer cost runs.now out.old }
 {
@@ -256,8 +248,7 @@ pub extern "C" fn yeldaski_write_answer(cost: u64, runs: &[i32], out: &mut [u8])
 }
 
 // A refusal, written as an answer file.
-#[unsafe(no_mangle)]
-pub extern "C" fn yeldaski_write_refusal(number: u8, out: &mut [u8]) -> Outcome
+pub fn yeldaski_write_refusal(number: u8, out: &mut [u8]) -> Outcome
     ensures answer { result ≡ written_outcome (refusal_written number (length out.old)) }
     ensures list { out.new ≡ after_refusal number out.old }
 {
@@ -287,8 +278,7 @@ fn write_found(f: Found, runs: &[i32], out: &mut [u8]) -> Written
 }
 
 // The answer file of a plan file.
-#[unsafe(no_mangle)]
-pub extern "C" fn yeldaski_segment(
+pub fn yeldaski_segment(
     file: &[u8],
     readings: &mut [i16],
     workspace: &mut [u64],
