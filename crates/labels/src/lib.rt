@@ -1,6 +1,7 @@
 // Labels at one boundary: which label has it, and what its rule makes of the count that is kept of it: its changes, where one of another kind than the
 // label asks for counts two (`Marks` in `model/specs`).
 #![tactic(auto)]
+
 ghost use Rattle.std.specs.Prelude.{◌≡◌, suc, ◌-◌, ◌+◌, ◌≤◌, ◌<◌, eqb};
 ghost use Rattle.model.specs.Model.{change_of, need, asked_of, within};
 ghost use Rattle.model.specs.Marks.{mark_of};

@@ -17,6 +17,6 @@ pub bounds-out-at-5 : goal.bounds-out-at-5
 bounds-out-at-5 c = simp length-set (omega (arith, c.requires))
 
 pub returns : goal.returns
-returns c = let g = c.struct_told-1.given in let p = c.requires in
-    let e1 = back32 c.args.r.first g.0.1 in let e2 = back32 c.args.r.last g.1.0.1 in let e3 = back32 c.args.r.state g.1.1.0.1 in let e4 = back32 c.args.r.level g.1.1.1.0.1 in let e5 = back32 c.args.r.edge g.1.1.1.1.0.1 in
+returns c = let p = c.requires in
+    let e1 = back32 c.args.r.first (omega arith) in let e2 = back32 c.args.r.last (omega arith) in let e3 = back32 c.args.r.state (omega arith) in let e4 = back32 c.args.r.level (omega arith) in let e5 = back32 c.args.r.edge (omega arith) in
     put_all _ _ _ _ _ refl refl refl refl refl e1 e2 e3 e4 e5 (put_more 4 _ _ _ _ _ _ (omega arith) (simp length-set (omega arith)) e5 (put_more 3 _ _ _ _ _ _ (omega arith) (simp length-set (omega arith)) e4 (put_more 2 _ _ _ _ _ _ (omega arith) (simp length-set (omega arith)) e3 (put_more 1 _ _ _ _ _ _ (omega arith) (simp length-set (omega arith)) e2 (put_more 0 _ _ _ _ _ _ (omega arith) (omega arith) e1 (put_none _ _ _))))))
