@@ -2,16 +2,14 @@
 use mathlib.Core.Path.{◌≡◌, refl, sym, ◌∙◌, ap, subst}
 use mathlib.Core.List.{List}
 use mathlib.Core.Option.{Option}
-use mathlib.Core.Logic.{◌⊎◌, inl, inr, ⊎_elim}
-use mathlib.Core.Bool.{Bool, true, false, cond}
-use Prim.Native.Nat.{ℕ, zero, suc, ◌+◌, ◌-◌, ◌*◌, ◌≤◌, ◌<◌, min}
+use mathlib.Core.Logic.{inl}
+use mathlib.Core.Bool.{Bool, true}
+use Prim.Native.Nat.{ℕ, zero, suc, ◌+◌, ◌-◌, ◌≤◌, ◌<◌, min}
 use native.Mathlib.Omega.{arith}
 use native.Mathlib.Numerals.{add-one}
-use lib.ListN.{length}
 use Rattle.plan.specs.declared.Edge.{Edge}
 use Rattle.plan.specs.declared.Label.{Label}
 use Rattle.model.specs.Model.{change_of, penalty}
-use Rattle.model.specs.Labels.{count_before}
 use Rattle.model.specs.Index.{no_cost}
 use Rattle.model.specs.Held.{penalty_most, Table, min_below}
 use Rattle.model.proofs.Held.{penalty_most_lem}
@@ -19,7 +17,7 @@ use Rattle.labels.specs.Boundary.{leads_from}
 use Rattle.quadratic.specs.Quad.{count_limit, cost_limit}
 use Rattle.curve.specs.Pieces.{piece}
 use Rattle.curve.specs.Lows.{costs}
-use Rattle.curve.specs.Curve.{Curve, Limits, curve_as, curve_most, curve_costs, curve_wider}
+use Rattle.curve.specs.Curve.{Curve, curve_as, curve_most, curve_costs, curve_wider}
 use Rattle.edges.specs.Edge.{Hand, Order, Sound, spared_refl, spared_then, spared_curve, spared_order, hand_order, order_other, order_place}
 use Rattle.layer.specs.declared.Shape.{Shape}
 use Rattle.layer.specs.Layer.{place_most, list_at, from_place}

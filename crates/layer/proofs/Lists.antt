@@ -1,9 +1,9 @@
 -- Lists made one after the other. Assumes nothing.
-use mathlib.Core.Path.{◌≡◌, refl, sym, ◌∙◌, ap, subst}
+use mathlib.Core.Path.{◌≡◌, refl, ◌∙◌, ap, subst}
 use mathlib.Core.List.{List}
 use mathlib.Core.Option.{Option}
 use mathlib.Core.Logic.{◌⊎◌, inl, inr, ⊎_elim}
-use Prim.Native.Nat.{ℕ, zero, suc, ◌+◌, ◌-◌, ◌*◌, ◌≤◌, ◌<◌}
+use Prim.Native.Nat.{ℕ, suc, ◌+◌, ◌*◌, ◌≤◌, ◌<◌}
 use native.Mathlib.Omega.{arith}
 use native.Mathlib.Nat.{mul-le-mul_right}
 use native.Mathlib.Numerals.{add-one}
@@ -16,13 +16,12 @@ use Rattle.model.specs.Model.{width}
 use Rattle.model.specs.Labels.{label_on, counts, used_at}
 use Rattle.model.proofs.Labels.{used_most}
 use Rattle.model.specs.Held.{Table}
-use Rattle.curve.specs.Pieces.{Apart}
 use Rattle.curve.specs.Lists.{count_most_lem}
 use Rattle.curve.specs.Curve.{Curve, curve_same}
 use Rattle.edges.specs.Edge.{Off}
 use Rattle.layer.specs.declared.Shape.{Shape}
-use Rattle.layer.specs.Layer.{reading_most, count_most, base_of, list_at, layer_words, ShapeOf, LayerOf, Sources}
-use Rattle.layer.specs.Next.{Task, Beside, NextReady, NextList, Lists, One, OfCount, Counts, Aside, StepReady, Stepped, FirstReady, StartReady}
+use Rattle.layer.specs.Layer.{reading_most, count_most, base_of, list_at, layer_words, LayerOf, Sources}
+use Rattle.layer.specs.Next.{NextReady, NextList, Lists, One, OfCount, Counts, Aside, StepReady, Stepped, FirstReady, StartReady}
 use Rattle.layer.proofs.Next.{list_within}
 
 -- ---- places

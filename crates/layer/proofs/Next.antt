@@ -34,14 +34,14 @@ use Rattle.model.proofs.Ends.{losses_low}
 use Rattle.labels.specs.Boundary.{leads_from, leads_at_lem}
 use Rattle.integers.specs.Pairs.{unit, lex}
 use Rattle.quadratic.specs.Quad.{none, no_value, flat, absent, count_limit, cost_limit}
-use Rattle.quadratic.specs.Fine.{far, square_most}
-use Rattle.curve.specs.Pieces.{Kept, Made, Apart}
+use Rattle.quadratic.specs.Fine.{far}
+use Rattle.curve.specs.Pieces.{Made, Apart}
 use Rattle.curve.specs.Lows.{levelled_is}
 use Rattle.curve.specs.Curve.{Curve, Limits, Bounded, curve_as, curve_kept, curve_costs, curve_wider, curve_flat, near}
-use Rattle.edges.specs.Edge.{Hand, Spared, Sound, Off, WithLoss, loss_place}
+use Rattle.edges.specs.Edge.{Sound, Off, WithLoss, loss_place}
 use Rattle.layer.specs.declared.Shape.{Shape}
 use Rattle.layer.specs.Layer.{temp_words, reading_most, count_most, base_of, list_at, layer_words, Shape-small, ShapeOf, from_place, LayerOf, Sources}
-use Rattle.layer.specs.Step.{source_of, offered, offered_by, edge_of, least_offered, EdgesReady, TookEdges}
+use Rattle.layer.specs.Step.{source_of, offered_by, edge_of, least_offered, EdgesReady, TookEdges}
 use Rattle.layer.specs.Next.{Task, Beside, NextReady, NextList, FirstReady, first_cost}
 
 -- a list lies within its layer

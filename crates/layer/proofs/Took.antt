@@ -3,7 +3,7 @@ use mathlib.Core.Path.{◌≡◌, refl, sym, ◌∙◌, ap, subst}
 use mathlib.Core.List.{List}
 use mathlib.Core.Option.{Option}
 use mathlib.Core.Logic.{inl}
-use mathlib.Core.Bool.{true, false, cond}
+use mathlib.Core.Bool.{true, false}
 use Prim.Native.Nat.{ℕ, suc, ◌+◌, ◌*◌, ◌≤◌, ◌<◌, min}
 use native.Mathlib.Omega.{arith}
 use native.Mathlib.Nat.{mul-le-mul, mul-le-mul_left}
@@ -11,14 +11,13 @@ use Rattle.plan.specs.declared.Edge.{Edge}
 use Rattle.plan.specs.declared.Label.{Label}
 use Rattle.model.specs.Model.{penalty, change_of}
 use Rattle.model.specs.Labels.{count_before, counts}
-use Rattle.model.specs.Index.{no_cost, edge_min}
-use Rattle.model.specs.Held.{penalty_most, Table}
+use Rattle.model.specs.Index.{edge_min}
 use Rattle.model.proofs.Held.{penalty_most_lem, change_low}
 use Rattle.labels.specs.Boundary.{leads_from}
-use Rattle.curve.specs.Curve.{Curve, Limits, curve_as, curve_most}
+use Rattle.curve.specs.Curve.{Curve, curve_as, curve_most}
 use Rattle.edges.specs.Edge.{Ready, Taken, spared_refl}
 use Rattle.layer.specs.declared.Shape.{Shape}
-use Rattle.layer.specs.Layer.{Shape-small, list_at}
+use Rattle.layer.specs.Layer.{list_at}
 use Rattle.layer.specs.Step.{source, offered, MayTake, TookOne}
 
 module _ (o : Option Label) (t : ℕ) (x : Edge) (k s cur : ℕ) (g : Shape) where

@@ -1,5 +1,5 @@
 -- One edge of one list, and what it makes of the least so far. Assumes nothing.
-use Rattle.std.specs.Prelude.{◌≡◌, refl, List, true, cond, ℕ, ◌+◌, ◌-◌, ◌*◌, ◌≤◌, ◌<◌, min, length, get_or}
+use Rattle.std.specs.Prelude.{◌≡◌, refl, List, true, cond, ℕ, ◌+◌, ◌-◌, ◌≤◌, ◌<◌, min, length, get_or}
 use Rattle.std.proofs.Math.Option.{Option}
 use Rattle.integers.specs.Pairs.{lex}
 use Rattle.plan.specs.declared.Plan.{Plan}
@@ -11,7 +11,7 @@ use Rattle.model.specs.Labels.{label_on, count_before, counts}
 use Rattle.model.specs.Held.{from_count}
 use Rattle.model.specs.Index.{no_cost, edge_min}
 use Rattle.model.specs.Held.{raise, penalty_most, Table, leads_at, by_edge, min_below}
-use Rattle.labels.specs.Boundary.{leads_from, leads_at_lem}
+use Rattle.labels.specs.Boundary.{leads_from}
 use Rattle.quadratic.specs.Quad.{count_limit, cost_limit}
 use Rattle.curve.specs.Curve.{Curve, Limits}
 use Rattle.edges.specs.Edge.{Ready, OneOf, Spared, Hand, Sound}
