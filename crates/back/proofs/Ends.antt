@@ -1,13 +1,11 @@
 -- What the functions that read a list ask and give, for the lists of a layer. Assumes nothing.
-use mathlib.Core.Path.{◌≡◌, refl, sym, ◌∙◌, ap, subst}
-use mathlib.Core.Logic.{◌⊎◌, inl, inr, ⊎_elim}
+use mathlib.Core.Path.{◌≡◌, sym, ◌∙◌, ap, subst}
+use mathlib.Core.Logic.{⊎_elim}
 use mathlib.Core.List.{List}
-use mathlib.Core.Bool.{Bool, true, false}
-use Prim.Native.Nat.{ℕ, suc, ◌+◌, ◌-◌, ◌*◌, ◌/◌, ◌≤◌, ◌<◌, min}
+use Prim.Native.Nat.{ℕ, ◌+◌, ◌-◌, ◌/◌, ◌≤◌, ◌<◌, min}
 use native.Mathlib.Omega.{arith}
-use lib.ListN.{length}
 use Rattle.plan.specs.declared.Plan.{Plan}
-use Rattle.model.specs.Model.{width, in_set}
+use Rattle.model.specs.Model.{width}
 use Rattle.model.specs.Index.{no_cost}
 use Rattle.model.specs.Held.{Table, min_below}
 use Rattle.model.specs.Ends.{point_at}
@@ -18,7 +16,7 @@ use Rattle.curve.specs.declared.Low.{Low}
 use Rattle.curve.specs.declared.Rank.{Rank}
 use Rattle.curve.specs.Pieces.{piece, Held}
 use Rattle.curve.specs.Lows.{low_of, rank_of, costs, Least, LeastIn}
-use Rattle.curve.specs.Curve.{Curve, Limits, curve_fine, curve_most}
+use Rattle.curve.specs.Curve.{curve_fine, curve_most}
 use Rattle.edges.specs.Edge.{Sound}
 use Rattle.layer.specs.declared.Shape.{Shape}
 use Rattle.layer.specs.Layer.{list_at, ShapeOf}

@@ -4,7 +4,7 @@ use mathlib.Core.Logic.{◌⊎◌, inl, inr, ⊎_elim}
 use mathlib.Core.List.{List}
 use mathlib.Core.Option.{Option}
 use mathlib.Core.Bool.{Bool, true, false, ◌&&◌}
-use Prim.Native.Nat.{ℕ, suc, ◌+◌, ◌-◌, ◌*◌, ◌≤◌, ◌<◌}
+use Prim.Native.Nat.{ℕ, ◌+◌, ◌≤◌, ◌<◌}
 use native.Mathlib.Omega.{arith}
 use lib.Dec.{eqb, ltb}
 use borrow.Author.Tests.{ltb-true, eqb-true, lt-ltb, eq-eqb, ne_eqb}
@@ -16,18 +16,17 @@ use Rattle.plan.specs.declared.Edge.{Edge}
 use Rattle.plan.specs.declared.Label.{Label}
 use Rattle.model.proofs.Bools.{same_test}
 use Rattle.model.specs.Model.{width, edge_at, penalty, change_of}
-use Rattle.model.specs.Labels.{label_on, used, count_before}
-use Rattle.model.specs.Index.{no_cost, Permitted, edge_min}
-use Rattle.model.specs.Held.{Table, from_count, leads_at, edge_least, edge_weight}
+use Rattle.model.specs.Labels.{used, count_before}
+use Rattle.model.specs.Index.{no_cost, Permitted}
+use Rattle.model.specs.Held.{Table, from_count, leads_at, edge_weight}
 use Rattle.labels.specs.Boundary.{leads_from, leads_at_lem, leads_from_used}
 use Rattle.curve.specs.declared.Low.{Low}
 use Rattle.curve.specs.Pieces.{piece}
 use Rattle.curve.specs.Lows.{low_of, costs}
 use Rattle.edges.specs.Back.{LeastOf, Offered, offered, offered_none, least_same}
 use Rattle.layer.specs.declared.Shape.{Shape}
-use Rattle.layer.specs.Layer.{list_at, ShapeOf}
 use Rattle.layer.specs.Step.{source}
-use Rattle.back.specs.Read.{Readable, Reads}
+use Rattle.back.specs.Read.{Reads}
 use Rattle.back.specs.Step.{meets_at, MayOffer, Offers, BackReady, Meets, StepFound}
 
 pub offers_none : (o : Option Label) (t : ℕ) (x : Edge) (k s j cur : ℕ) (g : Shape) (ws : List ℕ) (r : Low) → leads_from o t x k s ≡ false → no_cost ≤ low_of r → r.changes ≤ count_limit → Offers o t x k s j cur g ws r

@@ -1,5 +1,5 @@
 -- A layer that is read: what its lists cost, and its cheapest end. Assumes nothing.
-use Rattle.std.specs.Prelude.{◌≡◌, ◌⊎◌, List, Bool, true, false, cond, ℕ, zero, suc, ◌+◌, ◌-◌, ◌*◌, ◌≤◌, ◌<◌, min, ℤ, length}
+use Rattle.std.specs.Prelude.{◌≡◌, List, true, false, ℕ, zero, suc, ◌+◌, ◌-◌, ◌*◌, ◌≤◌, ◌<◌, min, ℤ}
 use Rattle.std.proofs.Math.Path.{refl, sym}
 use Rattle.std.proofs.Common.{◌∙◌, ap, subst, mul-le-mul_right}
 use Rattle.std.proofs.Math.Logic.{inl, inr, ⊎_elim}
@@ -13,18 +13,18 @@ use Rattle.model.specs.Labels.{label_on, counts, used_at}
 use Rattle.model.proofs.Labels.{used_most}
 use Rattle.model.specs.Least.{Upto}
 use Rattle.model.specs.Index.{no_cost}
-use Rattle.model.specs.Held.{Table, min_below, penalty_most}
+use Rattle.model.specs.Held.{Table, min_below}
 use Rattle.model.proofs.Held.{min_none}
 use Rattle.model.specs.Ends.{end_at}
 use Rattle.curve.specs.declared.Low.{Low}
 use Rattle.curve.specs.Pieces.{piece}
-use Rattle.curve.specs.Lows.{low_of, costs, Least, LeastIn}
-use Rattle.curve.specs.Curve.{Curve, Limits, curve_costs, curve_wider, curve_most}
+use Rattle.curve.specs.Lows.{low_of, costs, Least}
+use Rattle.curve.specs.Curve.{Curve, Limits, curve_costs, curve_wider}
 use Rattle.edges.specs.Edge.{Sound}
 use Rattle.layer.specs.declared.Shape.{Shape}
-use Rattle.layer.specs.Layer.{reading_most, count_most, base_of, place_most, list_at, Shape-small, ShapeOf, LayerOf}
+use Rattle.layer.specs.Layer.{reading_most, count_most, place_most, list_at, Shape-small, LayerOf}
 use Rattle.layer.specs.Next.{Task}
-use Rattle.layer.proofs.Next.{to_shape, limits, shape_small, some_levels, list_is}
+use Rattle.layer.proofs.Next.{to_shape, limits, shape_small, some_levels}
 use Rattle.back.specs.declared.End.{End}
 
 abbrev pub lesser_of : ℕ → ℕ → ℕ

@@ -1,6 +1,7 @@
 // A layer read: the cheapest end, the cost at a point, and the step back over one boundary.
 // All functions here are inner ones: their `requires` say where the layer stands.
 #![tactic(auto)]
+
 ghost use Rattle.std.specs.Prelude.{◌≡◌, ℕ, ◌+◌, ◌*◌, ◌/◌, ◌≤◌, ◌<◌};
 ghost use Rattle.integers.specs.Pairs.{unit, lex};
 ghost use Rattle.quadratic.specs.Quad.{count_limit};

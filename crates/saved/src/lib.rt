@@ -4,6 +4,7 @@
 // The words of the workspace, with S states and L levels: two layers, from 0 and from LAYER_WORDS · S · L; the three temporary lists, from
 // FREE_AT · S · L; and the stack of saved layers, from TEMP_WORDS · L after that up to ALL_WORDS · S · L.
 #![tactic(auto)]
+
 ghost use Rattle.std.specs.Prelude.{◌≡◌, ◌+◌, ◌*◌, ◌≤◌, ◌<◌, length};
 ghost use Rattle.coded.specs.Coded.{Coded};
 ghost use Rattle.model.specs.Checked.{Checked};

@@ -1,0 +1,26 @@
+use Rattle.saved.proofs.Stacks.{stack_dropped}
+use Rattle.saved.proofs.Walks.{space_then, starts_early, restarted_walked, walked_then}
+use native.Mathlib.Omega.{arith}
+use mathlib.Core.Path.{refl}
+use Rattle.saved.proofs.rewind.Goals as goal
+
+pub restart-w-requires : goal.restart-w-requires
+restart-w-requires c = record { workspace = (c.requires.workspace.0, (c.requires.workspace.1.0.places, stack_dropped c.requires.workspace.1.1.0 c.drop_after-kept.ensures)); coded = c.requires.coded }
+
+pub advance-requires : goal.advance-requires
+advance-requires c = record {
+  goes = let m = restarted_walked c.requires.workspace.0 (stack_dropped c.requires.workspace.1.1.0 c.drop_after-kept.ensures) c.restart-w.ensures refl in (
+    record {
+      space = space_then c.requires.workspace.0 m.inside.size;
+      at = m.at;
+      from = starts_early c.drop_after-kept.ensures c.restart-w.ensures c.requires.workspace.1.1.1.0;
+      most = omega (arith, c.requires.workspace.1.1.1.1, c.requires.workspace.1.0.most);
+    },
+    m.stack,
+  );
+  coded = c.requires.coded;
+  slots_le_most_slots = omega arith;
+}
+
+pub returns : goal.returns
+returns c = walked_then (restarted_walked c.requires.workspace.0 (stack_dropped c.requires.workspace.1.1.0 c.drop_after-kept.ensures) c.restart-w.ensures refl) c.advance.ensures
