@@ -1,6 +1,7 @@
 // Reads answer files on standard input, each with its length in two bytes in front, and writes a line in hexadecimal for each: the refusal, or
 // the file that the cost and the runs, or the refusal, that were read are written as.
 #![tactic(auto)]
+
 use answers::AnswerRead;
 
 fn show_runs(cost: u64, runs: &[i32]) {

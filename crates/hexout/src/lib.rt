@@ -2,6 +2,7 @@
 // come is outside the logic: the functions that show give nothing back and change nothing, so that they have no promise, and the lines are
 // compared with stored ones.
 #![tactic(auto)]
+
 ghost use Rattle.std.specs.Prelude.{◌≡◌, ◌%◌};
 ghost use Rattle.hexout.specs.Digits.{digit_of};
 ghost use Rattle.hexout.specs.Input.{FileIn};
@@ -9,6 +10,7 @@ ghost use Rattle.hexout.specs.Input.{FileIn};
 use fields::Written;
 
 // The digit of the low four bits.
+#[tactic(auto, using(crate::proofs::Digits::low_digit, crate::proofs::Digits::high_digit))]
 pub fn digit(b: u8) -> u8
     ensures { result ≡ digit_of (b % 16) }
 {

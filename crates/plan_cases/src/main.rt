@@ -1,6 +1,7 @@
 // Reads plan files on standard input, each with its length in two bytes in front, and writes a line in hexadecimal for each: the refusal, or
 // the file that the plan and the readings that were read are written as.
 #![tactic(auto)]
+
 use plan::Answer;
 
 fn show_file(s: &[u8]) {

@@ -1,7 +1,6 @@
 -- Why a step of the way back is the model's. Assumes nothing.
 use mathlib.Core.Path.{◌≡◌, refl, sym, ◌∙◌, ap, subst}
-use mathlib.Core.Logic.{◌⊎◌, inl, inr, ⊎_elim}
-use mathlib.Core.List.{List, [], ◌∷◌, ◌++◌, append-nil}
+use mathlib.Core.List.{List, [], ◌∷◌, append-nil}
 use mathlib.Core.Bool.{Bool, true, false, cond}
 use Prim.Native.Nat.{ℕ, zero, suc, ◌+◌, ◌-◌, ◌*◌, ◌^◌, ◌≤◌, ◌<◌}
 use native.Mathlib.Omega.{arith}
@@ -17,22 +16,21 @@ use mir.Val.{SFits, to_z, of_z, hbits}
 use Rattle.integers.specs.Pairs.{unit, lex}
 use Rattle.plan.specs.declared.Plan.{Plan}
 use Rattle.plan.specs.declared.Edge.{Edge}
-use Rattle.model.specs.Model.{width, edge_at, loss_at}
+use Rattle.model.specs.Model.{edge_at, loss_at}
 use Rattle.model.specs.Labels.{label_on, counts, count_before, used}
 use Rattle.model.specs.Run as M
 use Rattle.model.specs.Run.{joins, five}
 use Rattle.model.specs.Nodes.{Node, node}
-use Rattle.model.specs.Index.{no_cost, Permitted}
-use Rattle.model.specs.Held.{Table, from_count, leads_at, edge_least}
+use Rattle.model.specs.Index.{no_cost}
+use Rattle.model.specs.Held.{Table, from_count}
 use Rattle.model.specs.Ends.{table_at}
 use Rattle.model.specs.Runs.{walk_back}
 use Rattle.model.specs.Tables.{Ready}
 use Rattle.model.proofs.Tables.{MeetsAt, some_edge, step_walk, step_count}
 use Rattle.quadratic.specs.Quad.{count_limit}
 use Rattle.layer.specs.declared.Shape.{Shape}
-use Rattle.layer.specs.Next.{Task}
 use Rattle.runs.specs.declared.Run.{Run}
-use Rattle.runs.specs.Runs.{five_of, Put, Holds, holds_put}
+use Rattle.runs.specs.Runs.{five_of, Put, holds_put}
 use Rattle.quadratic.specs.Fine.{far}
 use Rattle.edges.specs.Edge.{loss_place}
 use Rattle.layer.proofs.Next.{base_place}

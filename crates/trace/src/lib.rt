@@ -2,6 +2,7 @@
 // whose first reading is found is written to the lent list.
 // All functions here are inner ones: their `requires` say where the layer stands.
 #![tactic(auto)]
+
 ghost use Rattle.std.specs.Prelude.{◌≡◌, [], ◌∷◌, suc, ◌+◌, ◌-◌, ◌*◌, ◌≤◌, ◌<◌, pos, ◌+ℤ◌};
 ghost use Rattle.model.specs.Run.{joins};
 ghost use Rattle.quadratic.specs.Fine.{far};
