@@ -2,7 +2,6 @@
 use mathlib.Core.Path.{◌≡◌, refl, sym, ◌∙◌, ap, subst}
 use mathlib.Core.List.{List, ◌++◌}
 use mathlib.Core.Bool.{true}
-use mathlib.Core.Option.{some}
 use Prim.Native.Nat.{ℕ, ◌+◌, ◌-◌, ◌/◌, ◌≤◌, ◌<◌}
 use native.Mathlib.Omega.{arith}
 use lib.IntN.{ℤ, pos, ◌+ℤ◌}
@@ -66,7 +65,7 @@ module _ (P : Plan) (zs : List ℤ) (s : ℕ) (m : ℤ) {g : Shape} {ws : List �
   module _ (v : ℕ) (ev : pos v ≡ m +ℤ pos 163840) where
     place_is : v ≡ g.base + above P.lo m
     place_is =
-        omega (arith, eq_n (nz v) (iz m ⊕ nz 163840) ev, eq_n (nz (base_of P)) (iz P.lo ⊕ nz 163840) (lowest_place_lem task), eq_n (iz P.lo ⊕ nz (above P.lo m)) (iz m) on-grid.1, task.shape.base)
+        omega (arith, eq_n (nz v) (iz m ⊕ nz 163840) ev, eq_n (nz (base_of P)) (iz P.lo ⊕ nz 163840) (lowest_place_lem task), eq_n (iz P.lo ⊕ nz (above P.lo m)) (iz m) on_grid_lem.1, task.shape.base)
 
     pub place_high : g.base ≤ v
     place_high = omega (arith, place_is)
@@ -81,7 +80,7 @@ module _ (P : Plan) (zs : List ℤ) (s : ℕ) (m : ℤ) {g : Shape} {ws : List �
       pub may_ask : {n : ℕ} → n ≡ used_at P (length zs) → Readable n w.cur g ws' × ((s < g.states) × (v - g.base < g.levels))
       may_ask e = (
         subst (λ (x : ℕ). Readable x w.cur g ws') (sym e) (layer_readable task layer_now (place_low task walked.at) task.ready.few_readings),
-        (omega (arith, (accepted_point P (length zs) s m a.accepts).state, task.shape.states), omega (arith, index_is, on-grid.0, task.shape.levels)),
+        (omega (arith, (accepted_point P (length zs) s m a.accepts).state, task.shape.states), omega (arith, index_is, on_grid_lem.0, task.shape.levels)),
       )
 
       module _ {n c : ℕ} (en : n ≡ used_at P (length zs)) (f : (H : Table) → Reads n w.cur g ws' H → c ≡ point_at n H s (v - g.base) / unit) where
@@ -99,9 +98,9 @@ module _ (P : Plan) (zs : List ℤ) (s : ℕ) (m : ℤ) {g : Shape} {ws : List �
 
         result_is : result_of P zs (point s m) ≡ found_cost (reported least)
         result_is =
-            let e = on-grid.1 in
+            let e = on_grid_lem.1 in
             ap (λ (x : ℤ). result_of P zs (point s x)) (sym e)
-            ∙ point_by P zs s (above P.lo m) (ap (λ (x : ℤ). point_number P (length zs) s x) e ∙ a.accepts) on-grid.0 last_table (table_held P zs task.ready (length zs) a.space.some task.ready.few_readings)
+            ∙ point_by P zs s (above P.lo m) (ap (λ (x : ℤ). point_number P (length zs) s x) e ∙ a.accepts) on_grid_lem.0 last_table (table_held P zs task.ready (length zs) a.space.some task.ready.few_readings)
 
         told : {r : Cost} (q : Result) → result_of P zs (point s m) ≡ q → r ≡ cost_of q → looked q ≡ true → Told P zs s m r ws ws'
         told q e h l = record { answer = h ∙ ap cost_of (sym e); looks = ap looked e ∙ l; inside = walked.inside }

@@ -1,18 +1,17 @@
 -- The shape of a plan, from the places of its lowest and highest level. Assumes nothing.
-use mathlib.Core.Path.{◌≡◌, refl, sym, ◌∙◌, ap}
-use Prim.Native.Nat.{ℕ, suc, ◌+◌, ◌-◌, ◌≤◌, ◌<◌, ◌^◌}
+use mathlib.Core.Path.{◌≡◌, refl, ap}
+use Prim.Native.Nat.{ℕ, ◌+◌, ◌-◌, ◌<◌, ◌^◌}
 use native.Mathlib.Omega.{arith}
 use lib.IntN.{ℤ, pos, nat_abs, ◌+ℤ◌}
 use lib.Signed.{mag}
 use mir.Facts.{to_z-of_z}
 use mir.Syntax.{w16}
 use mir.Val.{SFits, to_z, of_z, hbits}
-use Rattle.integers.specs.Rep.{iz, nz, ◌⊕◌, eq_n, eq_z}
+use Rattle.integers.specs.Rep.{iz, nz, ◌⊕◌, eq_n}
 use Rattle.plan.specs.declared.Plan.{Plan}
 use Rattle.model.specs.Model.{width, above}
 use Rattle.model.proofs.Grid.{above_add}
 use Rattle.model.specs.Checked.{Checked}
-use Rattle.layer.specs.declared.Shape.{Shape}
 use Rattle.layer.specs.Layer.{base_of, ShapeOf}
 
 -- a 16-bit number is read back as itself

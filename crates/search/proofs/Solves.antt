@@ -1,18 +1,12 @@
 -- Why the search gives the model's answer. Assumes nothing.
 use mathlib.Core.Path.{◌≡◌, refl, sym, ◌∙◌, ap, subst}
 use mathlib.Core.List.{List, [], ◌∷◌, ◌++◌, reverse}
-use Prim.Native.Nat.{ℕ, ◌+◌, ◌-◌, ◌*◌, ◌/◌, ◌≤◌, ◌<◌}
+use Prim.Native.Nat.{ℕ, ◌+◌, ◌*◌, ◌/◌, ◌≤◌, ◌<◌}
 use native.Mathlib.Omega.{arith}
-use lib.Dec.{T}
 use lib.IntN.{ℤ, pos, ◌+ℤ◌}
 use lib.ListN.{length, get_or, length-append, length-reverse}
-use lib.Signed.{mag, non_neg, yes_non_neg, pos-nat_abs}
-use mir.Syntax.{w16}
-use mir.Val.{SFits}
-use Rattle.integers.specs.Rep.{iz, nz, ◌⊕◌, eq_n, le_z_of, sfits_n}
+use lib.Signed.{mag}
 use Rattle.plan.specs.declared.Plan.{Plan}
-use Rattle.model.specs.Model.{width, above}
-use Rattle.model.proofs.Grid.{above_add}
 use Rattle.model.specs.Run as M
 use Rattle.model.specs.Run.{numbers}
 use Rattle.model.proofs.RunLaws.{numbers_length}
@@ -23,13 +17,13 @@ use Rattle.model.specs.Result.{Result, found, whole, result_of}
 use Rattle.quadratic.specs.Quad.{none, count_limit}
 use Rattle.model.specs.Held.{Table}
 use Rattle.model.specs.Ends.{table_at}
-use Rattle.model.proofs.Ends.{walk_first, losses_low}
+use Rattle.model.proofs.Ends.{walk_first}
 use Rattle.model.specs.Tables.{Ready}
 use Rattle.model.proofs.Tables.{ready_search}
 use Rattle.model.specs.Checked.{Checked}
 use Rattle.model.proofs.Checked.{accepted}
 use Rattle.layer.specs.declared.Shape.{Shape}
-use Rattle.layer.specs.Layer.{Layer, ShapeOf, Shape-small, base_of}
+use Rattle.layer.specs.Layer.{Layer, ShapeOf, Shape-small}
 use Rattle.layer.specs.Next.{Task}
 use Rattle.saved.specs.declared.Walk.{Walk}
 use Rattle.saved.specs.Walk.{Workspace, Walked, limit_cell}

@@ -1,8 +1,8 @@
 -- Why the way back gives the model's runs. Assumes nothing.
 use mathlib.Core.Path.{◌≡◌, refl, sym, ◌∙◌, ap, subst}
-use mathlib.Core.List.{List, [], ◌∷◌, ◌++◌, reverse, append_assoc}
-use Prim.Native.Nat.{ℕ, zero, suc, ◌+◌, ◌-◌, ◌*◌, ◌≤◌, ◌<◌, ◌^◌}
-use mathlib.Core.Logic.{◌⊎◌, ⊎_elim}
+use mathlib.Core.List.{List, [], ◌∷◌, ◌++◌, append_assoc}
+use Prim.Native.Nat.{ℕ, suc, ◌+◌, ◌*◌, ◌≤◌, ◌<◌}
+use mathlib.Core.Logic.{⊎_elim}
 use native.Mathlib.Omega.{arith}
 use native.Mathlib.Nat.{mul-le-mul}
 use lib.IntN.{ℤ, pos, ◌+ℤ◌}
@@ -17,13 +17,12 @@ use Rattle.layer.specs.Layer.{Layer, place_most}
 use Rattle.layer.specs.Next.{Task}
 use Rattle.saved.specs.declared.Walk.{Walk}
 use Rattle.saved.specs.Packed.{Inside}
-use Rattle.saved.specs.Walk.{Workspace, At, Stack, Walked, Goes, Places, limit}
+use Rattle.saved.specs.Walk.{Workspace, At, Stack, Walked, Goes, limit}
 use Rattle.saved.proofs.Chains.{inside_refl, inside_then}
 use Rattle.runs.specs.declared.Run.{Run}
-use Rattle.runs.specs.Runs.{Put, Reversed, Holds, holds_none, holds_put, holds_reversed, five_of}
+use Rattle.runs.specs.Runs.{Put, Reversed, holds_none, holds_put, holds_reversed, five_of}
 use Rattle.trace.specs.declared.Point.{Point}
 use Rattle.trace.specs.Trace.{PointAt, node_at, StepReady, StepMade}
-use Rattle.trace.proofs.Way.{five_is}
 use Rattle.search.specs.Way.{WayReady, WayTo, Finished}
 
 -- ---- forward

@@ -1,5 +1,5 @@
 -- What a search and a cost at a point answer, and what becomes of the lists that they are lent. Assumes nothing.
-use Rattle.std.specs.Prelude.{List, [], ◌++◌, Bool, true, cond, ℕ, ◌+◌, ◌*◌, ◌/◌, eqb, ℤ, length, take, drop, replicate}
+use Rattle.std.specs.Prelude.{List, [], ◌++◌, Bool, true, cond, ℕ, ◌*◌, ◌/◌, eqb, ℤ, length, take, drop, replicate}
 use Rattle.plan.specs.declared.Plan.{Plan}
 use Rattle.model.specs.Model.{width}
 use Rattle.model.specs.Refusals.{search_number, point_number}

@@ -1,5 +1,5 @@
 -- The way back from the cheapest end, boundary by boundary. Assumes nothing.
-use Rattle.std.specs.Prelude.{◌≡◌, List, [], ◌∷◌, ◌++◌, reverse, ℕ, suc, ◌+◌, ◌*◌, ◌≤◌, ◌<◌, ℤ, pos, ◌+ℤ◌, length}
+use Rattle.std.specs.Prelude.{◌≡◌, List, [], ◌∷◌, ◌++◌, reverse, ℕ, suc, ◌+◌, ◌*◌, ◌≤◌, ℤ, pos, ◌+ℤ◌, length}
 use Rattle.plan.specs.declared.Plan.{Plan}
 use Rattle.model.specs.Run as M
 use Rattle.model.specs.Runs.{walk_back}

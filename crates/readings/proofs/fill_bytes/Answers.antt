@@ -1,4 +1,5 @@
 -- `readings::fill_bytes` meets its contract. Assumes nothing.
+use borrow.Author.Rules.{rules}
 use native.Mathlib.Omega.{arith}
 use Rattle.readings.proofs.Turn.{no_bytes, bytes_turn}
 use Rattle.integers.specs.Bytes.{bits16}
@@ -44,7 +45,7 @@ loop-i-smaller c = omega arith
 
 pub loop-i-preserved : goal.loop-i-preserved
 loop-i-preserved c = let l : length c.loop-i.out ≡ length c.args.out.now = c.loop-i.invariant.1 in
-    let x = to_z-of_z w16 (get_or c.args.zs.now c.loop-i.i (pos 0)) (record { sfits = c.z-1.given }) in
+    let x = to_z-of_z w16 (get_or c.args.zs.now c.loop-i.i (pos 0)) (record { sfits = search rules }) in
     let h : c.high16.result ≡ bits16 (get_or c.args.zs.now c.loop-i.i (pos 0)) / 256 = c.high16.ensures ∙ ap (λ z. bits16 z / 256) x in
     let k : c.low16.result ≡ bits16 (get_or c.args.zs.now c.loop-i.i (pos 0)) % 256 = c.low16.ensures ∙ ap (λ z. bits16 z % 256) x in
     (omega arith, simp length-set l, rw (h, k, c.loop-i.invariant.2) (bytes_turn c.args.zs.now c.loop-i.i (omega arith) c.args.out.now (omega arith)))
