@@ -6,6 +6,7 @@
 // The words of the workspace, counted in layers: slot 0; two banks of K + 1 slots, one with the layers at hand and one for the next ones; and the
 // temporary lists after them.
 #![tactic(auto)]
+
 ghost use Rattle.std.specs.Prelude.{◌≡◌, ◌++◌, true, ℕ, suc, ◌+◌, ◌*◌, ◌≤◌, ◌<◌, min, length, take, drop};
 ghost use Rattle.model.specs.Held.{Table};
 ghost use Rattle.model.specs.Ends.{least_end_at};

@@ -1,5 +1,6 @@
 // The moving window: the least cost of every stretch of w readings of a long record.
 #![tactic(auto)]
+
 ghost use Rattle.std.specs.Prelude.{◌≡◌, length};
 ghost use Rattle.coded.specs.Coded.{Coded};
 ghost use Rattle.saved.specs.Walk.{table_size};

@@ -1,0 +1,10 @@
+-- `neighbourhood::put_entries`: the entries, and whether one is a cost. Assumes nothing.
+use Rattle.neighbourhood.proofs.Entries.{Entered}
+use Prim.Native.Nat.{suc, ◌-◌, ◌≤◌}
+use Rattle.neighbourhood.proofs.put_entries.Given as goal
+
+abbrev pub invariant-loop-k : goal.invariant-loop-k
+invariant-loop-k l = (l.k ≤ suc l.most) × Entered l.plan l.readings l.most l.k l.some l.initial.list l.list
+
+abbrev pub decreases-loop-k : goal.decreases-loop-k
+decreases-loop-k l = suc l.most - l.k

@@ -1,0 +1,10 @@
+-- `neighbourhood::put_nothing`: every list of slot 0 has nothing. Assumes nothing.
+use Rattle.neighbourhood.proofs.Empty.{Blank}
+use Prim.Native.Nat.{◌-◌, ◌≤◌}
+use Rattle.neighbourhood.proofs.put_nothing.Given as goal
+
+abbrev pub invariant-loop-q : goal.invariant-loop-q
+invariant-loop-q l = (l.q ≤ l.n) × Blank l.levels l.q l.initial.ws l.ws
+
+abbrev pub decreases-loop-q : goal.decreases-loop-q
+decreases-loop-q l = l.n - l.q

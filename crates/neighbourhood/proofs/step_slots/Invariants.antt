@@ -1,0 +1,10 @@
+-- `neighbourhood::step_slots`: one step of the search's layers for each slot. Assumes nothing.
+use Rattle.neighbourhood.proofs.Steps.{Stepping}
+use Prim.Native.Nat.{◌-◌, ◌≤◌}
+use Rattle.neighbourhood.proofs.step_slots.Given as goal
+
+abbrev pub invariant-loop-i : goal.invariant-loop-i
+invariant-loop-i l = (l.i ≤ l.last) × Stepping l.plan l.readings l.most l.t l.from l.to l.i l.initial.ws l.ws
+
+abbrev pub decreases-loop-i : goal.decreases-loop-i
+decreases-loop-i l = l.last - l.i
