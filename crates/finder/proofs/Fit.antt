@@ -2,7 +2,7 @@
 -- Assumes nothing.
 use mathlib.Core.Path.{◌≡◌, refl, sym, ◌∙◌, ap, subst}
 use mathlib.Core.Logic.{◌⊎◌, inl, inr}
-use mathlib.Core.List.{List, [], ◌∷◌, ◌++◌}
+use mathlib.Core.List.{List, [], ◌∷◌}
 use mathlib.Core.Bool.{Bool, true, false, cond}
 use Prim.Native.Nat.{ℕ, zero, suc, ◌+◌, ◌*◌, ◌/◌, ◌%◌, ◌≤◌, ◌<◌}
 use native.Mathlib.Omega.{arith}
@@ -15,13 +15,13 @@ use mir.Val.{SFits}
 use borrow.Author.Tests.{eq-eqb, ne_eqb, eqb-true, eqb-false, le-leb, leb-true}
 use Rattle.integers.specs.Pick.{pick}
 use Rattle.plan.specs.declared.Plan.{Plan}
-use Rattle.model.specs.Segmentation.{Seg, readings}
+use Rattle.model.specs.Segmentation.{Seg}
 use Rattle.model.specs.Model.{on_grid, First}
-use Rattle.model.specs.Run.{Run, run, runs, five, numbers, run_numbers}
+use Rattle.model.specs.Run.{Run, run, runs, numbers, run_numbers}
 use Rattle.model.specs.RunLaws.{RunOk, Tiles}
 use Rattle.model.proofs.RunLaws.{runs_tile, numbers_length, numbers_get}
 use Rattle.model.proofs.Bools.{clash, and_yes}
-use Rattle.model.specs.Checked.{Checked, Accepted, is_early}
+use Rattle.model.specs.Checked.{Checked, is_early}
 use Rattle.model.proofs.Checked.{accepted, early_has, search_is_early}
 use Rattle.model.specs.Refusals.{search_number}
 use Rattle.model.specs.Result.{Result, found, refused, whole, result_of}
@@ -29,8 +29,8 @@ use Rattle.model.proofs.Demand3.{demand3}
 use Rattle.search.specs.Search.{work_words, search_result}
 use Rattle.search.specs.Lent.{lent}
 use Rattle.search.specs.Right.{search_early}
-use Rattle.answers.specs.Runs.{last_refusal, is_refusal, run_fits, whole as whole_of, level_fits, number_at, whole_at, last_before, run_ok, runs_ok}
-use Rattle.answers.specs.Rules.{level_fits_lem, runs_none, runs_more, last_next, last_first}
+use Rattle.answers.specs.Runs.{last_refusal, is_refusal, run_fits, whole as whole_of, last_before, run_ok, runs_ok}
+use Rattle.answers.specs.Rules.{level_fits_lem}
 use Rattle.answers.specs.Writer.{answer_length, answer_number}
 
 -- ---- one run

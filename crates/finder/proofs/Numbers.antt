@@ -1,25 +1,21 @@
 -- The refusals of a plan file's reading are numbers of the paper's lists. Assumes nothing.
-use mathlib.Core.Path.{◌≡◌, refl, sym, ◌∙◌, ap}
+use mathlib.Core.Path.{◌≡◌, refl}
 use mathlib.Core.List.{List}
 use mathlib.Core.Bool.{Bool, true, false}
-use Prim.Native.Nat.{ℕ, zero, suc, ◌+◌, ◌-◌, ◌≤◌}
-use native.Mathlib.Omega.{arith}
+use Prim.Native.Nat.{ℕ, zero, suc, ◌+◌, ◌-◌}
 use lib.Dec.{eqb, leb, ltb}
 use lib.IntN.{ℤ, pos}
 use lib.ListN.{length, get_or}
-use borrow.Author.Tests.{eqb-true, eqb-false, le-leb, leb-true}
 use Rattle.integers.specs.Bytes.{word}
 use Rattle.plan.specs.declared.Plan.{Plan}
-use Rattle.plan.specs.declared.Edge.{Edge}
 use Rattle.plan.specs.declared.Label.{Label}
 use Rattle.plan.specs.declared.Built.{Built}
 use Rattle.plan.specs.declared.EdgeRead.{EdgeRead}
 use Rattle.plan.specs.declared.EdgeRead.TheVariants.{Is, Not}
-use Rattle.plan.specs.declared.EdgeStep.{EdgeStep}
-use Rattle.plan.specs.declared.EdgeStep.TheVariants.{AddEdge, RefuseEdge}
+use Rattle.plan.specs.declared.EdgeStep.TheVariants.{RefuseEdge}
 use Rattle.plan.specs.declared.Answer.{Answer}
 use Rattle.plan.specs.declared.Answer.TheVariants.{Done, Refused}
-use Rattle.plan.specs.Build.{pick, grid_ok, states_ok, blank, refused_at, done, open_number, open_plan, edge_of, has_edge, fresh_edge, read_edge, edge_step, add_step, plan_number, change_number, add_edge, with_label, label_number, label_step, add_label, closed, seal_plan}
+use Rattle.plan.specs.Build.{pick, grid_ok, states_ok, blank, refused_at, done, open_number, open_plan, edge_of, has_edge, fresh_edge, read_edge, edge_step, add_step, plan_number, change_number, add_edge, with_label, label_number, add_label, closed, seal_plan}
 use Rattle.model.specs.Checked.{is_early}
 use Rattle.model.proofs.Checked.{early_has, plan_is_early, label_is_early}
 use Rattle.fields.specs.declared.Field.{Field}
@@ -28,7 +24,7 @@ use Rattle.fields.specs.Fields.{row_of, may_stand, length_fits, count_fits, chec
 use Rattle.fields.specs.Tags.{nothing_after}
 use Rattle.answers.specs.Runs.{last_refusal}
 use Rattle.files.specs.declared.FileRead.{FileRead}
-use Rattle.files.specs.Reader.{refused_file, level_at, grid_number, open_bodies, edge_body, label_body, entry_body, on_answer, at_end, finish_file, on_field, entries_from, on_opened, on_states, on_grid, plan_file}
+use Rattle.files.specs.Reader.{refused_file, level_at, grid_number, open_bodies, edge_body, label_body, entry_body, on_answer, at_end, finish_file, on_field, entries_from, on_states, on_grid, plan_file}
 
 -- a number of the lists
 abbrev pub listed : ℕ → Bool

@@ -1,24 +1,23 @@
 -- A plan file and its first 9,011 bytes have one answer, so a program may read no more than these. Assumes nothing.
 use mathlib.Core.Path.{◌≡◌, refl, sym, ◌∙◌, ap}
 use mathlib.Core.List.{List}
-use Prim.Native.Nat.{ℕ, ◌+◌, ◌*◌, ◌≤◌}
+use Prim.Native.Nat.{ℕ, ◌≤◌}
 use native.Mathlib.Omega.{arith}
 use lib.ListN.{length, take}
 use lib.Seq.{take_all, take-take}
 use Rattle.plan.specs.declared.Answer.{Answer}
 use Rattle.plan.specs.declared.Answer.TheVariants.{Done, Refused}
-use Rattle.model.specs.Result.{Result, refused}
+use Rattle.model.specs.Result.{refused}
 use Rattle.readings.specs.Trips.{AllBytes}
 use Rattle.plan.specs.Counts.{count_is}
 use Rattle.readings.specs.Codec.{readings_of}
 use Rattle.fields.specs.Laws.{take_bytes}
-use Rattle.files.specs.declared.FileRead.{FileRead}
 use Rattle.files.specs.Reader.{plan_file, readings_part}
 use Rattle.files.specs.Sizes.{counts_small, plan_length_lem}
 use Rattle.files.specs.Writer.{plan_length}
 use Rattle.files.proofs.Back.{file_back}
 use Rattle.files.proofs.Prefix.{file_bound, prefix_decides}
-use Rattle.finder.specs.Finder.{on_plan, file_result, result_bytes, program_bytes}
+use Rattle.finder.specs.Finder.{file_result, result_bytes, program_bytes}
 use Rattle.finder.proofs.Calls.{none}
 
 module _ (s : List ℕ) (f : AllBytes s) (n : ℕ) (h : file_bound ≤ n) where

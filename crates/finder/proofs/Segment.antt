@@ -1,22 +1,20 @@
 -- Plan file in, answer file out, case by case. Assumes nothing.
-use mathlib.Core.Path.{◌≡◌, refl, sym, ◌∙◌, ap, ap₂, subst}
+use mathlib.Core.Path.{◌≡◌, refl, sym, ◌∙◌, ap, ap₂}
 use mathlib.Core.List.{List, ◌++◌}
-use mathlib.Core.Bool.{Bool, true, false, cond}
-use Prim.Native.Nat.{ℕ, ◌+◌, ◌*◌, ◌/◌, ◌%◌, ◌≤◌, ◌<◌}
+use mathlib.Core.Bool.{Bool, true, false}
+use Prim.Native.Nat.{ℕ, ◌*◌, ◌/◌, ◌%◌, ◌≤◌, ◌<◌}
 use native.Mathlib.Omega.{arith}
 use lib.Dec.{eqb, leb}
 use lib.IntN.{ℤ}
 use lib.Signed.{mag}
-use lib.ListN.{length, take, drop, length-append, length-drop}
+use lib.ListN.{length, take, drop, length-append}
 use lib.Seq.{take_at}
 use borrow.Author.Tests.{eq-eqb, ne_eqb, eqb-true, le-leb, leb-true}
 use Rattle.integers.specs.Pick.{pick}
-use Rattle.plan.specs.declared.Plan.{Plan}
-use Rattle.plan.specs.declared.Answer.{Answer}
 use Rattle.plan.specs.declared.Answer.TheVariants.{Done, Refused}
 use Rattle.model.specs.Result.{Result, found, refused}
 use Rattle.search.specs.declared.Found.{Found}
-use Rattle.search.specs.Search.{search_result, found_of, runs_after, words_left, words_after, looked}
+use Rattle.search.specs.Search.{search_result, found_of, runs_after, words_left, words_after}
 use Rattle.readings.specs.Codec.{readings_of, decode_number, decoded}
 use Rattle.plan.specs.Counts.{count_ok}
 use Rattle.readings.specs.Trips.{readings_length}
@@ -27,9 +25,9 @@ use Rattle.files.specs.declared.FileRead.{FileRead}
 use Rattle.files.specs.Reader.{plan_file, readings_part}
 use Rattle.answers.specs.Runs.{last_refusal, is_refusal}
 use Rattle.answers.specs.Lengths.{answer_length_lem}
-use Rattle.answers.specs.Writer.{answer_bytes, refusal_bytes, answer_length, answer_number, refusal_number, answer_written, after_answer, refusal_written, after_refusal}
+use Rattle.answers.specs.Writer.{answer_bytes, refusal_bytes, answer_number, refusal_number, answer_written, after_answer, refusal_written, after_refusal}
 use Rattle.finder.specs.declared.Outcome.{Outcome}
-use Rattle.finder.specs.Finder.{refused_with, written_outcome, on_plan, file_words, readings_number, file_readings, file_result, result_bytes, room_number, segment_outcome, after_segment}
+use Rattle.finder.specs.Finder.{written_outcome, file_words, file_readings, file_result, room_number, segment_outcome, after_segment}
 use Rattle.finder.specs.Parts.{runs_in, found_written, after_found}
 use Rattle.finder.proofs.Calls.{none, some, part_is, number_is, list_is}
 use Rattle.finder.proofs.Numbers.{listed, answer_listed, file_listed}

@@ -1,5 +1,5 @@
 -- What the exported calls answer: a plan comes as the bytes of a plan file, so each is first refused as the reader refuses. Assumes nothing.
-use Rattle.std.specs.Prelude.{List, ◌++◌, Bool, true, false, ℕ, ◌+◌, ◌*◌, ◌/◌, eqb, leb, ℤ, length, drop}
+use Rattle.std.specs.Prelude.{List, ◌++◌, ℕ, ◌/◌, eqb, leb, ℤ, length, drop}
 use Rattle.plan.specs.declared.Plan.{Plan}
 use Rattle.integers.specs.Pick.{pick}
 use Rattle.plan.specs.declared.Answer.{Answer}

@@ -1,5 +1,6 @@
 // The calls for programs in C and Rust, over lent lists alone. A plan comes as the bytes of a plan file.
 #![tactic(auto)]
+
 ghost use Rattle.std.specs.Prelude.{◌≡◌, ℕ, ◌*◌, ◌≤◌, ◌<◌, length, take};
 ghost use Rattle.std.specs.Int.Signed.{mag};
 ghost use Rattle.search.specs.Search.{runs_after};
