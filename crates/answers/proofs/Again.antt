@@ -15,8 +15,8 @@ use Rattle.integers.specs.Pick.{pick}
 use Rattle.integers.specs.Bytes.{word_back, bits16, signed_bits}
 use Rattle.fields.specs.declared.Field.TheVariants.{Body}
 use Rattle.fields.specs.Fields.{row_of, may_stand, length_fits, count_fits, field_at, part_of, field, bytes8}
-use Rattle.fields.specs.Laws.{field_read, field_part}
-use Rattle.fields.specs.Eight.{number_back}
+use Rattle.fields.proofs.Laws.{field_read, field_part}
+use Rattle.fields.proofs.Eight.{number_back}
 use Rattle.fields.specs.Put.{written}
 use Rattle.answers.specs.declared.AnswerRead.TheVariants.{Runs, Refusal}
 use Rattle.answers.specs.Runs.{is_refusal, whole, number_at, whole_at, last_before, runs_ok}

@@ -18,9 +18,10 @@ use Rattle.readings.specs.Trips.{AllBytes}
 use Rattle.fields.specs.declared.Field.{Field}
 use Rattle.fields.specs.declared.Field.TheVariants.{Body, Wrong}
 use Rattle.fields.specs.Fields.{row_of, field_at, field_number, part_of, word_at, field, number8, bytes8}
-use Rattle.fields.specs.Laws.{FieldRead, field_is, field_bytes, part_length, part_bytes, spell}
-use Rattle.fields.specs.Tags.{at_5}
-use Rattle.fields.specs.Eight.{eight_back}
+use Rattle.fields.specs.Laws.{FieldRead}
+use Rattle.fields.proofs.Laws.{field_is, field_bytes, part_length, part_bytes, spell}
+use Rattle.fields.proofs.Tags.{at_5}
+use Rattle.fields.proofs.Eight.{eight_back}
 use Rattle.fields.specs.Put.{outcome, written}
 use Rattle.fields.specs.declared.Written.TheVariants.{Bytes}
 use Rattle.answers.specs.declared.AnswerRead.{AnswerRead}

@@ -10,8 +10,8 @@ use lib.ListN.{length, get_or, take, length-take}
 use borrow.Author.Tests.{eqb-true}
 use Rattle.integers.specs.Pick.{pick}
 use Rattle.fields.specs.Fields.{field_at, part_of, word_at, number8}
-use Rattle.fields.specs.Laws.{field_is}
-use Rattle.fields.specs.Prefix.{body_short, same_field, same_closed, same_end, same_part}
+use Rattle.fields.proofs.Laws.{field_is}
+use Rattle.fields.proofs.Prefix.{body_short, same_field, same_closed, same_end, same_part}
 use Rattle.fields.specs.declared.Field.{Field}
 use Rattle.fields.specs.declared.Field.TheVariants.{Body, Wrong}
 use Rattle.answers.specs.declared.AnswerRead.{AnswerRead}

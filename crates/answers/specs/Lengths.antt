@@ -5,7 +5,7 @@ use Rattle.std.proofs.Common.{arith, add-one, sym, ◌∙◌, ap, length-append,
 use Rattle.std.proofs.lemmas.Bool.{eqb-false}
 use Rattle.integers.specs.Pick.{pick}
 use Rattle.fields.specs.Fields.{put_at, field, bytes8}
-use Rattle.fields.specs.Put.{put_none, put_more}
+use Rattle.fields.proofs.PutLaws.{put_none, put_more}
 use Rattle.answers.specs.Runs.{runs_ok}
 use Rattle.answers.specs.Writer.{run_field, runs_bytes, answer_bytes, answer_length, answer_number}
 

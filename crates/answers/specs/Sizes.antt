@@ -4,12 +4,12 @@ use Rattle.std.specs.Prelude.{ℕ, zero, suc, ◌+◌, ◌*◌, ◌≤◌, ◌�
 use Rattle.std.proofs.Common.{arith, add-one, sym, ◌∙◌, ap, length-append, eqb-true}
 use Rattle.std.proofs.lemmas.List.Edits.{sets}
 use Rattle.integers.specs.Pick.{pick}
-use Rattle.readings.specs.Front.{front_more}
+use Rattle.readings.proofs.Front.{front_more}
 use Rattle.fields.specs.declared.Field.{Field}
 use Rattle.fields.specs.declared.Field.TheVariants.{Body, Wrong}
 use Rattle.fields.specs.Fields.{row_of, field_at, field_number, part_of, number8}
-use Rattle.fields.specs.Laws.{field_is}
-use Rattle.fields.specs.Tags.{at_6, has_length}
+use Rattle.fields.proofs.Laws.{field_is}
+use Rattle.fields.proofs.Tags.{at_6, has_length}
 use Rattle.answers.specs.declared.AnswerRead.TheVariants.{Runs, Refusal, Unread}
 use Rattle.answers.specs.Runs.{is_refusal}
 use Rattle.answers.specs.Reader.{body_fits, body_last, on_run, runs_from, refusal_read, on_head, answer_file, run_numbers, run_body, runs_of}

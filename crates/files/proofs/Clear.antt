@@ -21,7 +21,7 @@ use Rattle.plan.proofs.Zeros.{Zeros, made_zeros}
 use Rattle.files.specs.Cleared.{edges_made, labels_made, cleared}
 use Rattle.files.specs.Reader.{plan_file, readings_part}
 use Rattle.files.specs.Writer.{head_bytes, write_number}
-use Rattle.files.specs.Sizes.{counts_small, write_room}
+use Rattle.files.proofs.Sizes.{counts_small, write_room}
 use Rattle.files.proofs.Again.{edges_shape, labels_shape, bytes, written_then_read, readings_then_read}
 
 -- the first i of es, and d in the rest of n places

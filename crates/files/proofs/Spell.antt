@@ -24,7 +24,7 @@ use Rattle.plan.proofs.Steps.{step_room, label_room}
 use Rattle.plan.proofs.Kept.{step_read, edge_back}
 use Rattle.plan.proofs.Cases.{AddedEdge, edge_cases, AddedLabel, label_cases, Sized}
 use Rattle.fields.specs.Fields.{field, word_at}
-use Rattle.fields.specs.Laws.{spell}
+use Rattle.fields.proofs.Laws.{spell}
 use Rattle.files.specs.Reader.{edge_body, label_body}
 use Rattle.files.specs.Writer.{grid_field, states_field, edge_field, label_field, edges_bytes, labels_bytes, head_bytes}
 

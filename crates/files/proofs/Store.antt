@@ -13,15 +13,15 @@ use borrow.Rule.Slice.PartMut.{mid_of, put_mid}
 use borrow.Author.Tests.{ne_eqb, le-leb, lt-leb}
 use Rattle.readings.specs.Codec.{bytes_of, encoded, encode_number}
 use Rattle.plan.specs.Counts.{count_ok}
-use Rattle.readings.specs.Trips.{bytes_length}
+use Rattle.readings.proofs.Trips.{bytes_length}
 use Rattle.plan.specs.Build.{plan_number, no_edge, no_label}
 use Rattle.plan.specs.declared.Edge.{Edge}
 use Rattle.plan.specs.declared.Label.{Label}
 use Rattle.plan.specs.declared.Plan.{Plan}
 use Rattle.fields.specs.Fields.{put_at, field}
-use Rattle.fields.specs.Put.{put_none, put_more, put_fits, put_length}
+use Rattle.fields.proofs.PutLaws.{put_none, put_more, put_fits, put_length}
 use Rattle.files.specs.Writer.{edge_field, label_field, grid_field, states_field, edges_bytes, labels_bytes, head_bytes, plan_bytes, plan_length, Room, write_number}
-use Rattle.files.specs.Sizes.{edges_length, labels_length}
+use Rattle.files.proofs.Sizes.{edges_length, labels_length}
 
 module _ (out : List ℕ) (at : ℕ) where
   pub no_edges : (es : List Edge) → at ≤ length out → out ≡ put_at out at (edges_bytes es 0)

@@ -21,7 +21,7 @@ use Rattle.model.proofs.Checked.{early_has, plan_is_early, label_is_early}
 use Rattle.fields.specs.declared.Field.{Field}
 use Rattle.fields.specs.declared.Field.TheVariants.{Body, Wrong}
 use Rattle.fields.specs.Fields.{row_of, may_stand, length_fits, count_fits, checked_field, field_at, field_number, part_of}
-use Rattle.fields.specs.Tags.{nothing_after}
+use Rattle.fields.proofs.Tags.{nothing_after}
 use Rattle.answers.specs.Runs.{last_refusal}
 use Rattle.files.specs.declared.FileRead.{FileRead}
 use Rattle.files.specs.Reader.{refused_file, level_at, grid_number, open_bodies, edge_body, label_body, entry_body, on_answer, at_end, finish_file, on_field, entries_from, on_states, on_grid, plan_file}

@@ -11,9 +11,9 @@ use Rattle.model.specs.Result.{refused}
 use Rattle.readings.specs.Trips.{AllBytes}
 use Rattle.plan.specs.Counts.{count_is}
 use Rattle.readings.specs.Codec.{readings_of}
-use Rattle.fields.specs.Laws.{take_bytes}
+use Rattle.fields.proofs.Laws.{take_bytes}
 use Rattle.files.specs.Reader.{plan_file, readings_part}
-use Rattle.files.specs.Sizes.{counts_small, plan_length_lem}
+use Rattle.files.proofs.Sizes.{counts_small, plan_length_lem}
 use Rattle.files.specs.Writer.{plan_length}
 use Rattle.files.proofs.Back.{file_back}
 use Rattle.files.proofs.Prefix.{file_bound, prefix_decides}

@@ -17,7 +17,7 @@ use Rattle.search.specs.declared.Found.{Found}
 use Rattle.search.specs.Search.{search_result, found_of, runs_after, words_left, words_after}
 use Rattle.readings.specs.Codec.{readings_of, decode_number, decoded}
 use Rattle.plan.specs.Counts.{count_ok}
-use Rattle.readings.specs.Trips.{readings_length}
+use Rattle.readings.proofs.Trips.{readings_length}
 use Rattle.fields.specs.Fields.{part_of}
 use Rattle.fields.specs.Put.{outcome, written}
 use Rattle.fields.specs.declared.Written.{Written}

@@ -9,8 +9,8 @@ use lib.Seq.{take-suc, length-take-le}
 use lib.IntN.{ℤ, pos}
 use Rattle.integers.specs.Bytes.{word, signed16, bits16}
 use Rattle.readings.specs.Codec.{readings_of, bytes_of}
-use Rattle.readings.specs.Front.{front_more}
-use Rattle.readings.specs.Trips.{bytes_length, bytes_append, readings_length, readings_append}
+use Rattle.readings.proofs.Front.{front_more}
+use Rattle.readings.proofs.Trips.{bytes_length, bytes_append, readings_length, readings_append}
 
 pub no_readings : (out : List ℤ) → out ≡ readings_of [] ++ out
 unfolding readings_of

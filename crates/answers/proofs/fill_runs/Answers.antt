@@ -2,7 +2,7 @@
 use native.Mathlib.Omega.{arith}
 use Rattle.answers.specs.Sizes.{no_runs, runs_turn}
 use Rattle.answers.specs.Reader.{run_numbers, run_body}
-use Rattle.fields.specs.Laws.{part_length}
+use Rattle.fields.proofs.Laws.{part_length}
 use native.Mathlib.Nat.{le_antisymm}
 use mathlib.Core.Path.{◌≡◌, refl, ◌∙◌, ap}
 use lib.Seq.{sets, length-sets}

@@ -3,7 +3,7 @@ use native.Mathlib.Omega.{arith}
 use Rattle.answers.specs.Writer.{run_field}
 use Rattle.answers.specs.Lengths.{none_put, run_put}
 use Rattle.answers.specs.Rules.{runs_each}
-use Rattle.fields.specs.Put.{put_length}
+use Rattle.fields.proofs.PutLaws.{put_length}
 use Rattle.fields.specs.Fields.{put_at}
 use native.Mathlib.Nat.{le_antisymm}
 use mathlib.Core.Path.{◌≡◌, refl, ◌∙◌, ap}

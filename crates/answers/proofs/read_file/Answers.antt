@@ -3,7 +3,7 @@ use native.Mathlib.Omega.{arith}
 use Prim.Native.Nat.{◌+◌}
 use lib.ListN.{length}
 use mathlib.Core.Path.{sym, ◌∙◌, ap}
-use Rattle.fields.specs.Laws.{field_is}
+use Rattle.fields.proofs.Laws.{field_is}
 use Rattle.fields.specs.Fields.{field_number, number8}
 use Rattle.answers.specs.Reader.{runs_from, refusal_read}
 use Rattle.answers.specs.declared.AnswerRead.TheVariants.{Unread}

@@ -1,7 +1,7 @@
 -- `answers::read_refusal` meets its contract. Assumes nothing.
 use Rattle.answers.proofs.Walk.{wrong_length, no_refusal, refusal_ends, refusal_not_last}
 use Rattle.answers.specs.declared.AnswerRead.TheVariants.{Unread}
-use Rattle.fields.specs.Tags.{nothing_after}
+use Rattle.fields.proofs.Tags.{nothing_after}
 use Rattle.fields.specs.Fields.{field_number}
 use mathlib.Core.Path.{◌∙◌, ap, sym}
 use Rattle.answers.proofs.read_refusal.Goals as goal

@@ -4,7 +4,7 @@ use Rattle.answers.proofs.Walk.{run_wrong, run_breaks, run_last, run_on}
 use Rattle.answers.specs.Reader.{body_fits, body_last}
 use Rattle.answers.specs.declared.AnswerRead.TheVariants.{Unread}
 use Rattle.fields.specs.Fields.{field_number}
-use Rattle.fields.specs.Laws.{field_is}
+use Rattle.fields.proofs.Laws.{field_is}
 use mathlib.Core.Path.{refl, sym, ◌∙◌, ap}
 use lib.ListN.{length}
 use Prim.Native.Nat.{◌<◌, ◌+◌}

@@ -1,11 +1,11 @@
 use mathlib.Core.List.{[]}
 -- `answers::write_answer` meets its contract. Assumes nothing.
-use Rattle.fields.specs.Put.{put_length}
+use Rattle.fields.proofs.PutLaws.{put_length}
 use Rattle.fields.specs.Fields.{field, bytes8}
 use native.Mathlib.Omega.{arith}
 use Rattle.answers.specs.Writer.{answer_bytes}
 use Rattle.answers.specs.Lengths.{answer_room, answer_put, answer_length_lem}
-use Rattle.fields.specs.Put.{write_refused, write_done, put_front}
+use Rattle.fields.proofs.PutLaws.{write_refused, write_done, put_front}
 use Prim.Native.Nat.{◌/◌, ◌*◌, ◌+◌}
 use lib.ListN.{length}
 use mathlib.Core.Path.{◌≡◌, sym, ◌∙◌, ap}

@@ -2,7 +2,7 @@ use mathlib.Core.List.{[]}
 -- `answers::write_refusal` meets its contract. Assumes nothing.
 use mathlib.Core.Path.{refl, ◌∙◌}
 use borrow.Author.Tests.{eqb-false}
-use Rattle.fields.specs.Put.{write_refused, write_done, put_front}
+use Rattle.fields.proofs.PutLaws.{write_refused, write_done, put_front}
 use Rattle.answers.proofs.Cases.{unknown_refusal, no_room_left, refusal_writes}
 use Rattle.answers.proofs.write_refusal.Goals as goal
 

@@ -1,7 +1,7 @@
 -- `files::finish_file` meets its contract. Assumes nothing.
 use Rattle.files.proofs.Walk.{seal_refused, at_end_lem, after_end}
 use Rattle.files.specs.Reader.{refused_file}
-use Rattle.fields.specs.Tags.{nothing_after}
+use Rattle.fields.proofs.Tags.{nothing_after}
 use Rattle.fields.specs.Fields.{field_number}
 use Rattle.plan.specs.Build.{answer_number}
 use mathlib.Core.Path.{◌∙◌, ap, sym}

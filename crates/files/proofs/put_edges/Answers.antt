@@ -3,7 +3,7 @@ use native.Mathlib.Omega.{arith}
 use Rattle.files.proofs.Store.{no_edges, edge_turn}
 use Rattle.files.specs.Writer.{edge_field}
 use Rattle.plan.specs.Build.{no_edge}
-use Rattle.fields.specs.Put.{put_length}
+use Rattle.fields.proofs.PutLaws.{put_length}
 use Rattle.fields.specs.Fields.{put_at}
 use native.Mathlib.Nat.{le_antisymm}
 use mathlib.Core.Path.{◌≡◌, refl, ◌∙◌, ap}

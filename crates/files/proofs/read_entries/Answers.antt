@@ -4,7 +4,7 @@ use native.Mathlib.Omega.{arith}
 use Rattle.files.proofs.Walk.{walk_wrong, walk_end, walk_refused, walk_on}
 use Rattle.files.specs.Reader.{refused_file, entry_body}
 use Rattle.fields.specs.Fields.{field_number}
-use Rattle.fields.specs.Laws.{field_is}
+use Rattle.fields.proofs.Laws.{field_is}
 use mathlib.Core.Path.{refl, sym, ◌∙◌, ap}
 use lib.ListN.{length}
 use Prim.Native.Nat.{◌<◌, ◌+◌}

@@ -4,7 +4,7 @@ use native.Mathlib.Omega.{arith}
 use Rattle.files.proofs.Walk.{grid_refused, grid_wrong, states_refused, open_refused, open_done}
 use Rattle.files.specs.Reader.{refused_file, grid_number, open_bodies}
 use Rattle.fields.specs.Fields.{field_number}
-use Rattle.fields.specs.Laws.{field_is}
+use Rattle.fields.proofs.Laws.{field_is}
 use mathlib.Core.Path.{sym, ◌∙◌, ap, ap₂}
 use Rattle.files.proofs.read_plan.Goals as goal
 

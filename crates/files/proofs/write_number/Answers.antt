@@ -1,6 +1,6 @@
 -- `files::write_number` meets its contract. Assumes nothing.
 use Rattle.files.proofs.Store.{plan_wrong, unsealed, wrong_count, no_room, writes}
-use Rattle.files.specs.Sizes.{counts_small}
+use Rattle.files.proofs.Sizes.{counts_small}
 use Rattle.plan.specs.Counts.{count_is}
 use borrow.Author.Tests.{not-true, not-false}
 use Prim.Native.Nat.{ℕ, ◌<◌, ◌≤◌}

@@ -1,9 +1,9 @@
 -- `files::write_plan` meets its contract. Assumes nothing.
 use native.Mathlib.Omega.{arith}
-use Rattle.files.specs.Sizes.{write_room, plan_length_lem}
+use Rattle.files.proofs.Sizes.{write_room, plan_length_lem}
 use Rattle.files.specs.Writer.{plan_bytes, plan_length}
 use Rattle.fields.specs.declared.Written.TheVariants.{Bytes}
-use Rattle.fields.specs.Put.{write_refused, write_done, put_front}
+use Rattle.fields.proofs.PutLaws.{write_refused, write_done, put_front}
 use Rattle.plan.specs.Counts.{count_is}
 use lib.ListN.{length}
 use mathlib.Core.List.{[]}

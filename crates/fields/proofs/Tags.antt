@@ -7,7 +7,7 @@ use Rattle.integers.specs.Pick.{pick}
 use Rattle.fields.specs.declared.Row.{Row}
 use Rattle.fields.specs.declared.Field.TheVariants.{Body}
 use Rattle.fields.specs.Fields.{row_of, may_stand, length_fits, field_at}
-use Rattle.fields.specs.Laws.{field_is}
+use Rattle.fields.proofs.Laws.{field_is}
 
 abbrev nowhere : Row
 nowhere = record { first = 1; last = 0; next = 4; len = 0 }

@@ -5,7 +5,7 @@ use Rattle.std.proofs.Common.{arith, ◌∙◌, ap, eq-eqb}
 use Rattle.integers.specs.Bytes.{word_high, word_low}
 use Rattle.readings.specs.Trips.{AllBytes}
 use Rattle.fields.specs.Fields.{join, number8, bytes8}
-use Rattle.fields.specs.Laws.{spell}
+use Rattle.fields.proofs.Laws.{spell}
 
 -- the bytes of a number come back as the number
 pub number_back : (n : ℕ) → n < 18446744073709551616 → number8 (bytes8 n) ≡ n

@@ -12,7 +12,7 @@ use Rattle.plan.specs.Counts.{count_ok}
 use Rattle.plan.specs.Counts.{count_is}
 use Rattle.fields.specs.declared.Field.TheVariants.{Body, Wrong}
 use Rattle.fields.specs.Fields.{row_of, may_stand, length_fits, count_fits, checked_field, field_at, part_of}
-use Rattle.fields.specs.Tags.{row_short, at_4}
+use Rattle.fields.proofs.Tags.{row_short, at_4}
 
 -- the longest body
 pub body_short : (t l : ℕ) → length_fits t l ≡ true → count_fits t l ≡ true → l ≤ 8192
