@@ -77,7 +77,7 @@ pub fn run(args: &[&str], input: &[u8]) -> Done {
 
 /// What the proved program `segment` writes: the one that `rt` made last, or the one that `tools/build` kept.
 pub fn segment(plan_file: &[u8]) -> Vec<u8> {
-    let paths = ["../../target/bin/segment", "../target/proved/segment"].map(|path| PathBuf::from(env!("CARGO_MANIFEST_DIR")).join(path));
+    let paths = ["../../crates/segment/out/segment", "../target/proved/segment"].map(|path| PathBuf::from(env!("CARGO_MANIFEST_DIR")).join(path));
     let program = paths.into_iter().find(|path| path.exists());
     let output = fed(
         &mut Command::new(program.expect("segment; run in the root of the repository: rt check segment")),
