@@ -79,10 +79,7 @@ pub fn run(args: &[&str], input: &[u8]) -> Done {
 pub fn segment(plan_file: &[u8]) -> Vec<u8> {
     let paths = ["../../crates/segment/out/segment", "../target/proved/segment"].map(|path| PathBuf::from(env!("CARGO_MANIFEST_DIR")).join(path));
     let program = paths.into_iter().find(|path| path.exists());
-    let output = fed(
-        &mut Command::new(program.expect("segment; run in the root of the repository: rt check segment")),
-        plan_file,
-    );
+    let output = fed(&mut Command::new(program.expect("segment; run in crates/segment: rt run")), plan_file);
     assert!(output.status.success());
     output.stdout
 }
