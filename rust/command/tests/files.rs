@@ -1,13 +1,12 @@
 //! Outputs: no input is written over, and no file is left half written.
 mod common;
-use common::{folder, hex, run_in, PAPER_ANSWER, PAPER_PLAN};
+use common::{folder, hex, run_in, Folder, PAPER_ANSWER, PAPER_PLAN};
 use std::fs;
 use std::os::unix::fs::{symlink, PermissionsExt};
-use std::path::PathBuf;
 
 const TEXT: &str = "grid 0 to 9\nstate only start end\nedge only -> only stay\nedge only -> only any penalty 10\nreadings from r.csv\n";
 
-fn inputs(test: &str) -> PathBuf {
+fn inputs(test: &str) -> Folder {
     let folder = folder(test);
     fs::write(folder.join("t.txt"), TEXT).expect("file");
     fs::write(folder.join("r.csv"), "3\n4\n").expect("file");

@@ -1,6 +1,6 @@
 //! `find`: records to answers in one step, alone and by the folder.
 mod common;
-use common::{folder, hex, put, python, run_in, PAPER_PLAN};
+use common::{folder, hex, put, python, run_in, Folder, PAPER_PLAN};
 use std::fs;
 use std::path::PathBuf;
 
@@ -11,7 +11,7 @@ const RECORD: &str = "31\n30\n31\n42\n43\n42\n41\n42\n";
 const TABLE: &str =
     "cost 53\n\nrun  first  last  state  level  edge\n  1      1     3  new       31  start\n  2      4     8  worn      42  2 (new -> worn, up 6)\n";
 
-fn start(test: &str) -> PathBuf {
+fn start(test: &str) -> Folder {
     let folder = folder(test);
     put(&folder, "belt.txt", TEXT);
     put(&folder, "day.csv", RECORD);
@@ -326,7 +326,7 @@ fn a_refused_plan() {
     assert!(done.err.contains("no record is named"), "{}", done.err);
 }
 
-fn many(test: &str) -> PathBuf {
+fn many(test: &str) -> Folder {
     let folder = start(test);
     fs::create_dir(folder.join("all")).expect("folder");
     for day in 0..7 {

@@ -2,7 +2,7 @@
 mod common;
 use common::cost_lists::{self, Case, A, BELT, DAY, SORTS, WRONG};
 use common::cost_lists::{from_input, json, lines, picture, put_sorts, put_wrong, refuses, refuses_outputs, rough};
-use common::{program, put, python, run_in, Done};
+use common::{program, put, python, run_in, Done, Folder};
 use std::fs;
 use std::path::PathBuf;
 use std::process::Command;
@@ -11,7 +11,7 @@ use std::process::Command;
 const PAD: &str = "grid 20 to 39\nstate tight start end\nstate leaking end\nedge tight -> tight stay\nedge leaking -> leaking stay\n\
                    edge tight -> leaking up 3 penalty 0\nedge leaking -> tight down 3 penalty 0\nreadings 22 23 22 26 27 22 22 23\n";
 
-fn start(test: &str) -> PathBuf {
+fn start(test: &str) -> Folder {
     cost_lists::start(&format!("table_{test}"), &[("pad.txt", PAD), ("day.csv", DAY)])
 }
 

@@ -1,6 +1,6 @@
 //! `verify`, and the same check in `show --plan` and `plot --answer`: what is not the answer of the plan is refused.
 mod common;
-use common::{folder, hex, run_in, Done};
+use common::{folder, hex, run_in, Done, Folder};
 use std::fs;
 use std::path::PathBuf;
 
@@ -12,7 +12,7 @@ const ANSWER: &str = "81 0008 0000000000000035  82 0008 0001 0003 00 001F FF  82
 const NO_PLAN: &str = "01 0004 0000 0006  02 0003 02 01 02  03 0006 00 00 00 0000 00  05 0002 0001";
 
 /// A folder with belt.txt, belt.plan and an answer file.
-fn belt(test: &str, answer: &str) -> PathBuf {
+fn belt(test: &str, answer: &str) -> Folder {
     let folder = folder(test);
     fs::write(folder.join("belt.txt"), TEXT).expect("file");
     fs::write(folder.join("belt.answer"), hex(answer)).expect("file");

@@ -2,7 +2,7 @@
 mod common;
 use common::cost_lists::{self, Case, A, SORTS, WRONG};
 use common::cost_lists::{from_input, json, lines, picture, put_sorts, put_wrong, refuses, refuses_outputs, rough};
-use common::{put, python, run_in, Done};
+use common::{put, python, run_in, Done, Folder};
 use std::fs;
 use std::os::unix::fs::symlink;
 use std::path::PathBuf;
@@ -10,7 +10,7 @@ use std::path::PathBuf;
 /// One state and one level: each cost is the sum of the squares of the readings.
 const ZERO: &str = "grid 0 to 0\nstate s start end\nedge s -> s stay\n";
 
-fn start(test: &str) -> PathBuf {
+fn start(test: &str) -> Folder {
     cost_lists::start(&format!("windows_{test}"), &[("zero.txt", ZERO)])
 }
 

@@ -1,5 +1,5 @@
 //! What the tests of `table` and `windows` share, the two commands that give a list of costs.
-use super::{folder, hex, put, python, run_in, Done};
+use super::{folder, hex, put, python, run_in, Done, Folder};
 use std::fs;
 use std::path::{Path, PathBuf};
 
@@ -15,7 +15,7 @@ pub const BELT: &str = "grid 0 to 30\nstate new start end\nstate worn end\nedge 
 pub const DAY: &str = "1\n5\n5\n1\n";
 
 /// A folder with the plans above, example B with another end set, and more files.
-pub fn start(test: &str, more: &[(&str, &str)]) -> PathBuf {
+pub fn start(test: &str, more: &[(&str, &str)]) -> Folder {
     let folder = folder(test);
     for (name, text) in [("a.txt", A), ("b.txt", B), ("belt.txt", BELT)].iter().chain(more) {
         put(&folder, name, text);

@@ -5,6 +5,7 @@ pub mod cost_lists;
 
 use std::fs;
 use std::io::Write;
+use std::ops::Deref;
 use std::path::{Path, PathBuf};
 use std::process::{Command, Output, Stdio};
 
@@ -30,12 +31,35 @@ pub fn program() -> Command {
     Command::new(env!("CARGO_BIN_EXE_yeldaski"))
 }
 
+/// A folder that goes with its test: `rt ci` refuses the links that some tests make, wherever they stand in the repository.
+pub struct Folder(PathBuf);
+
+impl Deref for Folder {
+    type Target = PathBuf;
+
+    fn deref(&self) -> &PathBuf {
+        &self.0
+    }
+}
+
+impl AsRef<Path> for Folder {
+    fn as_ref(&self) -> &Path {
+        &self.0
+    }
+}
+
+impl Drop for Folder {
+    fn drop(&mut self) {
+        let _ = fs::remove_dir_all(&self.0);
+    }
+}
+
 /// An empty folder of its own for a test.
-pub fn folder(test: &str) -> PathBuf {
+pub fn folder(test: &str) -> Folder {
     let folder = PathBuf::from(env!("CARGO_TARGET_TMPDIR")).join(test);
     let _ = fs::remove_dir_all(&folder);
     fs::create_dir_all(&folder).expect("folder");
-    folder
+    Folder(folder)
 }
 
 pub fn put(folder: &Path, name: &str, content: &str) {
