@@ -12,11 +12,11 @@ use Rattle.integers.specs.Pick.{pick}
 use Rattle.plan.specs.declared.Answer.{Answer}
 use Rattle.plan.specs.declared.Answer.TheVariants.{Done, Refused}
 use Rattle.model.specs.Result.{Result, found, refused, Costs, cost_list, no_costs}
-use Rattle.search.specs.declared.Found.{Found}
-use Rattle.search.specs.declared.Found.TheVariants.{Segmentation}
-use Rattle.search.specs.declared.Cost.{Cost}
+use Rattle.search.specs.Told.{Found}
+use Rattle.search.specs.Told.{Segmentation}
+use Rattle.search.specs.Told.{Cost}
 use Rattle.search.specs.Search.{search_result, point_result, found_of, cost_of, runs_after, words_after}
-use Rattle.search.specs.declared.Filled.{Filled}
+use Rattle.search.specs.ToldCosts.{Filled}
 use Rattle.search.specs.Costs.{filled_of, costs_after}
 use Rattle.windows.specs.Windows.{window_result, window_words}
 use Rattle.neighbourhood.specs.Neighbourhood.{table_result, table_words_after}

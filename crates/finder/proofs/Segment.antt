@@ -13,7 +13,7 @@ use borrow.Author.Tests.{eq-eqb, ne_eqb, eqb-true, le-leb, leb-true}
 use Rattle.integers.specs.Pick.{pick}
 use Rattle.plan.specs.declared.Answer.TheVariants.{Done, Refused}
 use Rattle.model.specs.Result.{Result, found, refused}
-use Rattle.search.specs.declared.Found.{Found}
+use Rattle.search.specs.Told.{Found}
 use Rattle.search.specs.Search.{search_result, found_of, runs_after, words_left, words_after}
 use Rattle.readings.specs.Codec.{readings_of, decode_number, decoded}
 use Rattle.plan.specs.Counts.{count_ok}

@@ -1,11 +1,11 @@
 -- What the parts of the exported calls do with the answers of the search. Assumes nothing.
 use Rattle.std.specs.Prelude.{List, ℕ, ◌*◌, ℤ, take}
-use Rattle.search.specs.declared.Found.{Found}
-use Rattle.search.specs.declared.Found.TheVariants.{Segmentation, Refused}
-use Rattle.search.specs.declared.Filled.{Filled}
-use Rattle.search.specs.declared.Filled.TheVariants as F
-use Rattle.search.specs.declared.Cost.{Cost}
-use Rattle.search.specs.declared.Cost.TheVariants.{Least, Refusal}
+use Rattle.search.specs.Told.{Found}
+use Rattle.search.specs.Told.{Segmentation, Refused}
+use Rattle.search.specs.ToldCosts.{Filled}
+use Rattle.search.specs.ToldCosts as F
+use Rattle.search.specs.Told.{Cost}
+use Rattle.search.specs.Told.{Least, NoCost}
 use Rattle.fields.specs.declared.Written.{Written}
 use Rattle.answers.specs.Writer.{answer_written, after_answer, refusal_written, after_refusal}
 use Rattle.finder.specs.declared.Outcome.{Outcome}
@@ -17,7 +17,7 @@ found_outcome (Refused n) = refused_with n
 
 abbrev pub cost_outcome : Cost → Outcome
 cost_outcome (Least c) = given 0 c 0
-cost_outcome (Refusal n) = refused_with n
+cost_outcome (NoCost n) = refused_with n
 
 abbrev pub filled_outcome : Filled → Outcome
 filled_outcome (F.Costs k) = given 0 0 k
