@@ -44,22 +44,16 @@ fn slots_at(most: usize, t: usize) -> usize
     requires { most ≤ 32 }
     ensures { result ≡ min (suc most) t }
 {
-    let all = most + 1;
-    if t < all { t } else { all }
+    t.min(most + 1)
 }
 
 // Where slot i of the bank after b layers stands after t readings, counted in layers: that of slot 0 while it has nothing.
+#[tactic(auto, unfolding(crate::specs::Slots::slot_of))]
 fn slot_of(b: usize, i: usize, t: usize) -> usize
     requires { (b ≤ 33) × (i ≤ 33) }
     ensures { result ≡ slot_of b i t }
 {
-    if i == 0 {
-        return 0;
-    }
-    if t < i {
-        return 0;
-    }
-    b + i
+    if i == 0 || t < i { 0 } else { b + i }
 }
 
 // Slot 0: a layer in which nothing is reached.
@@ -70,10 +64,8 @@ fn put_nothing(ws: &mut [u64], g: Shape)
     let levels = g.levels;
     let size = 4 * (levels as usize);
     let n = labels::COUNTS * g.states;
-    let mut q = 0;
-    while q < n {
+    for q in 0..n {
         curve::constant(ws, q * size, levels, quadratic::NONE, 0);
-        q += 1;
     }
 }
 
@@ -95,12 +87,10 @@ fn step_slots(
 {
     let free = place_of(g, 2 * most + 3);
     let last = slots_at(most, t + 1);
-    let mut i = 0;
-    while i < last {
+    for i in 0..last {
         let changes = place_of(g, slot_of(from, i, t));
-        i += 1;
-        let stays = place_of(g, slot_of(from, i, t));
-        let next = place_of(g, to + i);
+        let stays = place_of(g, slot_of(from, i + 1, t));
+        let next = place_of(g, to + (i + 1));
         let origin = Origin { stays, changes };
         layer::next_layer(ws, plan, code, readings, t, origin, next, free, g);
     }
@@ -126,13 +116,9 @@ fn forward(
     let n = readings.len();
     let mut from = 0;
     let mut to = most + 1;
-    let mut t = 1;
-    while t < n {
+    for t in 1..n {
         step_slots(ws, plan, code, readings, t, most, from, to, g);
-        let last = from;
-        from = to;
-        to = last;
-        t += 1;
+        (from, to) = (to, from);
     }
     from
 }
@@ -165,15 +151,13 @@ fn put_entries(
 {
     let n = readings.len();
     let mut some = false;
-    let mut k = 0;
-    while k <= most {
+    for k in 0..most + 1 {
         let o = place_of(g, slot_of(bank, k + 1, n));
         let cost = entry(ws, plan, o, g);
         list[k] = cost;
         if cost != NO_COST {
             some = true;
         }
-        k += 1;
     }
     some
 }

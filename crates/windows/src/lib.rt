@@ -28,8 +28,7 @@ fn each_part(
     ensures { FilledTo plan «record».now w (filled_told result) ws.old ws.new costs.old costs.new }
 {
     let last = record.len() - w;
-    let mut a = 0;
-    while a <= last {
+    for a in 0..last + 1 {
         let reached = search::cheapest(ws, plan, code, &record[a..a + w], g, table, 0);
         let end = reached.end;
         let least = end.value;
@@ -37,9 +36,8 @@ fn each_part(
             return Err(Refusal::NoSegmentation);
         }
         costs[a] = least;
-        a += 1;
     }
-    Ok(a)
+    Ok(last + 1)
 }
 
 // The walk with what it lends to every part: the plan's edges and labels, and the table of saved layers, of which none is used.
