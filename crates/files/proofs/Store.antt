@@ -1,13 +1,13 @@
 -- Storing the fields of a plan one after another, and the numbers of its writer.
 -- Assumes nothing.
-use Prim.Native.Nat.{ℕ, ◌+◌, ◌-◌, ◌*◌, ◌/◌, ◌%◌, ◌≤◌, ◌<◌}
+use Prim.Native.Nat.{ℕ, zero, suc, ◌+◌, ◌-◌, ◌*◌, ◌/◌, ◌%◌, ◌≤◌, ◌<◌}
 use native.Mathlib.Omega.{arith}
 use native.Mathlib.Numerals.{add-one}
-use mathlib.Core.Path.{◌≡◌, sym, ◌∙◌, ap, ap₂}
+use mathlib.Core.Path.{◌≡◌, refl, sym, ◌∙◌, ap, ap₂}
 use mathlib.Core.Bool.{Bool, true, false}
 use mathlib.Core.List.{List, [], ◌∷◌, ◌++◌, append-nil, append_assoc}
 use lib.ListN.{length, get_or, take, drop, length-append, length-drop, drop_of_length-le}
-use lib.Seq.{take_all, drop-drop}
+use lib.Seq.{take_all, drop-drop, length-take-le, get_or-take}
 use lib.IntN.{ℤ}
 use borrow.Rule.Slice.PartMut.{mid_of, put_mid}
 use borrow.Author.Tests.{ne_eqb, le-leb, lt-leb}
@@ -45,6 +45,23 @@ module _ (out : List ℕ) (at : ℕ) where
       let n = labels_length ls i in
       ap (λ (k : ℕ). put_at (put_at out at (labels_bytes ls i)) (at + k) (label_field (get_or ls i no_label))) (sym n) ∙
       put_more out at (labels_bytes ls i) (label_field (get_or ls i no_label)) (omega arith) ∙ ap (λ (k : ℕ). put_at out at (labels_bytes ls k)) (sym (add-one i))
+
+-- the first entries of a list are those of its front
+edges_front : (es : List Edge) (m n : ℕ) → n ≤ m → edges_bytes (take m es) n ≡ edges_bytes es n
+unfolding edges_bytes
+edges_front es m zero h = refl
+edges_front es m (suc n) h = ap₂ (λ (a : List ℕ) (e : Edge). a ++ edge_field e) (edges_front es m n (omega arith)) (get_or-take m es n no_edge (omega arith))
+
+labels_front : (ls : List Label) (m n : ℕ) → n ≤ m → labels_bytes (take m ls) n ≡ labels_bytes ls n
+unfolding labels_bytes
+labels_front ls m zero h = refl
+labels_front ls m (suc n) h = ap₂ (λ (a : List ℕ) (l : Label). a ++ label_field l) (labels_front ls m n (omega arith)) (get_or-take m ls n no_label (omega arith))
+
+pub counted_edges : (es : List Edge) (n : ℕ) → n ≤ length es → edges_bytes (take n es) (length (take n es)) ≡ edges_bytes es n
+counted_edges es n h = ap (edges_bytes (take n es)) (length-take-le n es h) ∙ edges_front es n n (omega arith)
+
+pub counted_labels : (ls : List Label) (n : ℕ) → n ≤ length ls → labels_bytes (take n ls) (length (take n ls)) ≡ labels_bytes ls n
+counted_labels ls n h = ap (labels_bytes (take n ls)) (length-take-le n ls h) ∙ labels_front ls n n (omega arith)
 
 module _ (p : Plan) (n room w : ℕ) (ew : w ≡ plan_number p) where
   pub plan_wrong : (w ≡ 0 → ⊥) → w ≡ write_number p n room
