@@ -146,16 +146,10 @@ fn put_run(runs: &mut [i32], at: usize, b: &[u8])
     requires { (length b.now ≡ 8) × (at + 5 ≤ length runs.old) }
     ensures { runs.new ≡ sets runs.old at (run_numbers b.now) }
 {
-    let first = fields::word(b[0], b[1]) as i32;
-    let last = fields::word(b[2], b[3]) as i32;
-    let state = b[4] as i32;
-    let level = integers::signed16(b[5], b[6]) as i32;
-    let edge = b[7] as i32;
-    runs[at] = first;
-    runs[at + 1] = last;
-    runs[at + 2] = state;
-    runs[at + 3] = level;
-    runs[at + 4] = edge;
+    let first = i32::from(fields::word(b[0], b[1]));
+    let last = i32::from(fields::word(b[2], b[3]));
+    let level = i32::from(integers::signed16(b[5], b[6]));
+    runs[at..at + 5].copy_from_slice(&[first, last, i32::from(b[4]), level, i32::from(b[7])]);
 }
 
 fn fill_runs(s: &[u8], n: usize, runs: &mut [i32])
