@@ -13,23 +13,16 @@ use lib.Seq.{get_or-set_same, get_or-set_other}
 use borrow.Author.Tests.{eqb-true, eqb-false, leb-true, leb-false, ne_eqb}
 use Rattle.plan.specs.declared.Kind.{Kind}
 use Rattle.plan.specs.declared.Kind.TheVariants.{Stay, Any, Up, Down, Abs}
-use Rattle.plan.specs.declared.KindRead.{KindRead}
-use Rattle.plan.specs.declared.KindRead.TheVariants.{Of, Wrong}
 use Rattle.plan.specs.declared.Edge.{Edge}
-use Rattle.plan.specs.declared.EdgeRead.{EdgeRead}
-use Rattle.plan.specs.declared.EdgeRead.TheVariants.{Is, Not}
-use Rattle.plan.specs.declared.EdgeStep.{EdgeStep}
-use Rattle.plan.specs.declared.EdgeStep.TheVariants.{AddEdge, RefuseEdge}
 use Rattle.plan.specs.declared.Plan.{Plan}
-use Rattle.plan.specs.declared.Built.{Built}
-use Rattle.plan.specs.declared.Answer.{Answer}
-use Rattle.plan.specs.declared.Answer.TheVariants.{Done, Refused}
 use Rattle.plan.specs.Build.{pick, first_below, kind_of, with_kind, kind_number, gap_of, has_edge, read_edge, fresh_edge, edge_of, edge_step, edge_step_number, entry_number, edges_number, label_number, labels_number, open_number, plan_number, change_number, or_else, answer_number, no_edge, no_label, blank, done, refused_at, with_edge, with_label, add_step}
 use Rattle.plan.specs.Calls.{edge_at, label_at, Call, call, Made, opened, called, edge_call, label_call, after, and_then, build_edges, build_labels, build_again, SameEntries}
 use Rattle.plan.proofs.Below.{first_none, first_found}
 use Rattle.plan.proofs.Steps.{entry_full, label_full, edge_decided, label_stopped, label_added, open_refused, open_done, change_none}
 use Rattle.plan.proofs.Kept.{by_kind, by_edge_lem, never, step_read, step_same, label_same, Parts, parts, whole}
 use Rattle.plan.proofs.Cases.{Sized, number_same}
+use Rattle.std.specs.Prelude.{Option, Some, None}
+use Rattle.plan.specs.Build.{AddEdge, Answer, Built, Done, EdgeStep, RefuseEdge, Refused}
 
 -- ---- a run of calls, for edges and for labels alike
 
@@ -114,22 +107,22 @@ made_then b k q m h = go b.answer refl h
 -- ---- edges
 
 -- an edge is read back from its own numbers
-kind_own : (κ κ' : Kind) → kind_of (kind_number κ) (gap_of κ) ≡ Of κ' → κ' ≡ κ
+kind_own : (κ κ' : Kind) → kind_of (kind_number κ) (gap_of κ) ≡ Some κ' → κ' ≡ κ
 kind_own Stay κ' h = cc
 kind_own Any κ' h = cc
-kind_own (Up g) κ' h = ⊎_elim (λ w. never κ' w.1) (λ w. cc w.1) (by_kind (ltb 1023 g) Wrong (Of (Up g)) κ' h)
-kind_own (Down g) κ' h = ⊎_elim (λ w. never κ' w.1) (λ w. cc w.1) (by_kind (ltb 1023 g) Wrong (Of (Down g)) κ' h)
-kind_own (Abs g) κ' h = ⊎_elim (λ w. never κ' w.1) (λ w. cc w.1) (by_kind (ltb 1023 g) Wrong (Of (Abs g)) κ' h)
+kind_own (Up g) κ' h = ⊎_elim (λ w. never κ' w.1) (λ w. cc w.1) (by_kind (ltb 1023 g) None (Some (Up g)) κ' h)
+kind_own (Down g) κ' h = ⊎_elim (λ w. never κ' w.1) (λ w. cc w.1) (by_kind (ltb 1023 g) None (Some (Down g)) κ' h)
+kind_own (Abs g) κ' h = ⊎_elim (λ w. never κ' w.1) (λ w. cc w.1) (by_kind (ltb 1023 g) None (Some (Abs g)) κ' h)
 
 module _ (s : ℕ) (e e' : Edge) where
-  read_own : (r : KindRead) → kind_of (kind_number e.kind) (gap_of e.kind) ≡ r → with_kind e.from e.to e.class r ≡ Is e' → e' ≡ e
-  read_own Wrong q h = let z : ◌≡◌ {A = ℕ} 0 1 = cc in absurd (omega arith)
-  read_own (Of κ) q h =
+  read_own : (r : Option Kind) → kind_of (kind_number e.kind) (gap_of e.kind) ≡ r → with_kind e.from e.to e.class r ≡ Some e' → e' ≡ e
+  read_own None q h = let z : ◌≡◌ {A = ℕ} 0 1 = cc in absurd (omega arith)
+  read_own (Some κ) q h =
       let w : record { from = e.from; to = e.to; kind = κ; class = e.class } ≡ e' = cc in
       let v : κ ≡ e.kind = kind_own e.kind κ q in
       sym w ∙ ap (λ (k : Kind). record { from = e.from; to = e.to; kind = k; class = e.class }) v
 
-  edge_own : edge_of s e.from e.to (kind_number e.kind) (gap_of e.kind) e.class ≡ Is e' → e' ≡ e
+  edge_own : edge_of s e.from e.to (kind_number e.kind) (gap_of e.kind) e.class ≡ Some e' → e' ≡ e
   unfolding edge_of
   edge_own h = read_own (kind_of (kind_number e.kind) (gap_of e.kind)) refl (by_edge_lem (leb e.class 15) _ e' (by_edge_lem (ltb e.to s) _ e' (by_edge_lem (ltb e.from s) _ e' h)))
 
@@ -142,10 +135,10 @@ step_number s es n f t k g c m h = by_limit (leb 32 n) (edge_of s f t k g c) h
     fresh true x q z = let w : 7 ≡ m = cc in omega arith
     fresh false x q z = let w : ◌≡◌ {A = ℕ} 0 1 = cc in omega arith
 
-    by_limit : (b : Bool) (r : EdgeRead) → pick b (RefuseEdge 10) (read_edge es n f t k r) ≡ RefuseEdge m → m ≡ 0 → ⊥
+    by_limit : (b : Bool) (r : Option Edge) → pick b (RefuseEdge 10) (read_edge es n f t k r) ≡ RefuseEdge m → m ≡ 0 → ⊥
     by_limit true r q z = let w : 10 ≡ m = cc in omega arith
-    by_limit false Not q z = let w : 6 ≡ m = cc in omega arith
-    by_limit false (Is x) q z = fresh (has_edge es n f t k) x q z
+    by_limit false None q z = let w : 6 ≡ m = cc in omega arith
+    by_limit false (Some x) q z = fresh (has_edge es n f t k) x q z
 
 module _ (p : Plan) where
   -- p with its first i edges and no label; with its edges and its first j labels

@@ -12,14 +12,11 @@ use borrow.Author.Tests.{eqb-true, ltb-false}
 use Rattle.plan.specs.declared.Edge.{Edge}
 use Rattle.plan.specs.declared.Label.{Label}
 use Rattle.plan.specs.declared.Plan.{Plan}
-use Rattle.plan.specs.declared.Built.{Built}
-use Rattle.plan.specs.declared.Answer.TheVariants.{Done, Refused}
-use Rattle.plan.specs.declared.EdgeStep.{EdgeStep}
-use Rattle.plan.specs.declared.EdgeStep.TheVariants.{AddEdge, RefuseEdge}
 use Rattle.plan.specs.Build.{no_edge, no_label, blank, refused_at, done, edge_step, label_number, open_number, open_plan, plan_number, change_number, add_edge, add_label, with_edge, with_label, seal_plan, closed, edges_number, labels_number}
 use Rattle.plan.specs.Calls.{Call, edge, label, seal, call, Made, opened, called, SameEntries}
 use Rattle.plan.proofs.Below.{first_none}
 use Rattle.plan.proofs.Kept.{whole, plan_kept, label_kept, edges_same, labels_same}
+use Rattle.plan.specs.Build.{AddEdge, Built, Done, EdgeStep, RefuseEdge, Refused}
 
 pub record AddedEdge (p : Plan) (f t k g c : ℕ) : Type 0 where
   pub change : change_number p ≡ 0

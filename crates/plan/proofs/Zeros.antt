@@ -11,10 +11,10 @@ use lib.Seq.{get_or-set_other}
 use Rattle.plan.specs.declared.Edge.{Edge}
 use Rattle.plan.specs.declared.Label.{Label}
 use Rattle.plan.specs.declared.Plan.{Plan}
-use Rattle.plan.specs.declared.Built.{Built}
 use Rattle.plan.specs.Build.{no_edge, no_label, done, open_plan, with_edge, with_label}
 use Rattle.plan.specs.Calls.{edge_at, label_at, Call, edge, label, seal, call, Made, opened, called}
 use Rattle.plan.proofs.Cases.{edge_cases, label_cases, seal_cases, open_is}
+use Rattle.plan.specs.Build.{Built}
 
 pub record Zeros (p : Plan) : Type 0 where
   pub edges : (i : ℕ) → p.edgecount ≤ i → edge_at p i ≡ no_edge

@@ -3,10 +3,8 @@ use Rattle.std.specs.Prelude.{ℕ, zero, suc, ◌<◌, ◌≡◌, ℤ, get_or}
 use Rattle.plan.specs.declared.Edge.{Edge}
 use Rattle.plan.specs.declared.Label.{Label}
 use Rattle.plan.specs.declared.Plan.{Plan}
-use Rattle.plan.specs.declared.Built.{Built}
-use Rattle.plan.specs.declared.Answer.{Answer}
-use Rattle.plan.specs.declared.Answer.TheVariants.{Done, Refused}
 use Rattle.plan.specs.Build.{kind_number, gap_of, no_edge, no_label, done, open_plan, add_edge, add_label, seal_plan}
+use Rattle.plan.specs.Build.{Answer, Built, Done, Refused}
 
 abbrev pub edge_at : Plan → ℕ → Edge
 edge_at p i = get_or p.edges i no_edge

@@ -1,5 +1,5 @@
-use Rattle.plan.specs.Build.{edge_of}
-use mathlib.Core.Path.{◌∙◌, sym}
+use Rattle.plan.specs.Build.{edge_of, with_kind}
+use mathlib.Core.Path.{◌∙◌, sym, ap}
 use borrow.Author.Tests.{le-ltb, lt-ltb, le-leb, lt-leb}
 use Rattle.plan.proofs.edge_of.Goals as goal
 
@@ -15,10 +15,12 @@ pub returns-then-class-gt-MAX_CLASS : goal.returns-then-class-gt-MAX_CLASS
 unfolding edge_of
 returns-then-class-gt-MAX_CLASS c = simp (lt-ltb _ _ c.if-states-from.false, lt-ltb _ _ c.if-states-to.false, lt-leb _ _ c.if-class-gt-MAX_CLASS.true)
 
-pub returns-in-Of : goal.returns-in-Of
+pub returns-in_err-kind : goal.returns-in_err-kind
 unfolding edge_of
-returns-in-Of c = simp (lt-ltb _ _ c.if-states-from.false, lt-ltb _ _ c.if-states-to.false, le-leb _ _ c.if-class-gt-MAX_CLASS.false, sym c.kind_of-read.ensures ∙ c.in-Of.is)
+returns-in_err-kind c =
+    simp (lt-ltb _ _ c.if-states-from.false, lt-ltb _ _ c.if-states-to.false, le-leb _ _ c.if-class-gt-MAX_CLASS.false, c.from_residual.ensures, sym c.kind_of.ensures ∙ c.in_err-kind.was)
 
-pub returns-in-Wrong : goal.returns-in-Wrong
+pub returns : goal.returns
 unfolding edge_of
-returns-in-Wrong c = let z = c.before in simp (lt-ltb _ _ z.if-states-from.false, lt-ltb _ _ z.if-states-to.false, le-leb _ _ z.if-class-gt-MAX_CLASS.false, sym c.kind_of-read.ensures ∙ c.in-Wrong.is)
+returns c =
+    simp (lt-ltb _ _ c.if-states-from.false, lt-ltb _ _ c.if-states-to.false, le-leb _ _ c.if-class-gt-MAX_CLASS.false, sym c.kind_of.ensures ∙ c.in_ok-kind.was)

@@ -1,6 +1,7 @@
 use Rattle.plan.specs.Build.{label_number}
 use borrow.Author.Tests.{le-ltb, lt-ltb, le-leb, lt-leb, eq-eqb, ne_eqb}
-use Rattle.plan.proofs.label_number.Goals as goal
+use Rattle.plan.proofs.check_label.Goals as goal
+use Rattle.plan.proofs.check_label.Goals.{then-l-eq0-via-then-l-eq0, then-l-eq0-via-else-l-eq0+then-l, then-l-eq0-via-else-l-eq0+else-l+then-l-gt-MAX_READINGS, then-l-eq0-via-else-l-eq0+else-l+else-l-gt-MAX_READINGS+then-l-gt-MAX_LABEL_C}
 
 pub returns-then-n-ge-MAX_LABELS : goal.returns-then-n-ge-MAX_LABELS
 unfolding label_number
@@ -8,19 +9,15 @@ returns-then-n-ge-MAX_LABELS c = simp (le-leb _ _ c.if-n-ge-MAX_LABELS.true)
 
 pub returns-then-l-eq0 : goal.returns-then-l-eq0
 unfolding label_number
-returns-then-l-eq0 c = simp (lt-leb _ _ c.if-n-ge-MAX_LABELS.false, eq-eqb _ _ c.if-l-eq0.true)
-
-pub returns-then-l : goal.returns-then-l
-unfolding label_number
-returns-then-l c = simp (lt-leb _ _ c.if-n-ge-MAX_LABELS.false, ne_eqb _ _ c.if-l-eq0.false, le-leb _ _ c.if-l.true)
-
-pub returns-then-l-gt-MAX_READINGS : goal.returns-then-l-gt-MAX_READINGS
-unfolding label_number
-returns-then-l-gt-MAX_READINGS c = simp (lt-leb _ _ c.if-n-ge-MAX_LABELS.false, ne_eqb _ _ c.if-l-eq0.false, lt-leb _ _ c.if-l.false, lt-ltb _ _ c.if-l-gt-MAX_READINGS.true)
-
-pub returns-then-l-gt-MAX_LABEL_C : goal.returns-then-l-gt-MAX_LABEL_C
-unfolding label_number
-returns-then-l-gt-MAX_LABEL_C c = simp (lt-leb _ _ c.if-n-ge-MAX_LABELS.false, ne_eqb _ _ c.if-l-eq0.false, lt-leb _ _ c.if-l.false, le-ltb _ _ c.if-l-gt-MAX_READINGS.false, lt-ltb _ _ c.if-l-gt-MAX_LABEL_C.true)
+returns-then-l-eq0 c =
+    elim c.then-l-eq0.branch [
+      | then-l-eq0-via-then-l-eq0 w ↦ simp (lt-leb _ _ c.if-n-ge-MAX_LABELS.false, eq-eqb _ _ w.if-l-eq0.true)
+      | then-l-eq0-via-else-l-eq0+then-l w ↦ simp (lt-leb _ _ c.if-n-ge-MAX_LABELS.false, ne_eqb _ _ w.if-l-eq0.false, le-leb _ _ w.if-l.true)
+      | then-l-eq0-via-else-l-eq0+else-l+then-l-gt-MAX_READINGS w ↦
+          simp (lt-leb _ _ c.if-n-ge-MAX_LABELS.false, ne_eqb _ _ w.if-l-eq0.false, lt-leb _ _ w.if-l.false, lt-ltb _ _ w.if-l-gt-MAX_READINGS.true)
+      | then-l-eq0-via-else-l-eq0+else-l+else-l-gt-MAX_READINGS+then-l-gt-MAX_LABEL_C w ↦
+          simp (lt-leb _ _ c.if-n-ge-MAX_LABELS.false, ne_eqb _ _ w.if-l-eq0.false, lt-leb _ _ w.if-l.false, le-ltb _ _ w.if-l-gt-MAX_READINGS.false, lt-ltb _ _ w.if-l-gt-MAX_LABEL_C.true)
+    ]
 
 pub returns-then-n-eq0 : goal.returns-then-n-eq0
 unfolding label_number
