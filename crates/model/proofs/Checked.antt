@@ -13,10 +13,6 @@ use Rattle.integers.specs.Rep.{iz, nz, ◌⊕◌, ◌⊖◌, eq_n, le_n, holds}
 use Rattle.plan.specs.declared.Plan.{Plan}
 use Rattle.plan.specs.declared.Edge.{Edge}
 use Rattle.plan.specs.declared.Label.{Label}
-use Rattle.plan.specs.declared.KindRead.TheVariants.{Wrong}
-use Rattle.plan.specs.declared.EdgeRead.{EdgeRead}
-use Rattle.plan.specs.declared.EdgeRead.TheVariants.{Is, Not}
-use Rattle.plan.specs.declared.EdgeStep.TheVariants.{RefuseEdge}
 use Rattle.plan.specs.Build.{pick, any_below, first_below, kind_number, gap_of, kind_of, kind_at, with_kind, edge_of, same_edge, has_edge, no_edge, no_label, read_edge, fresh_edge, edge_step, edge_step_number, entry_number, edges_number, label_number, labels_number, grid_ok, mask_ok, states_ok, open_number, or_else, plan_number}
 use Rattle.model.specs.Model.{edge_at, label_at, above, width, in_set, on_grid}
 use Rattle.model.proofs.Bools.{clash}
@@ -24,6 +20,8 @@ use Rattle.model.proofs.Grid.{above_add}
 use Rattle.plan.specs.Counts.{count_within, count_ok, long_ok, count_is, long_is}
 unfoldable pub use Rattle.model.specs.Refusals.{late, search_number, point_number, table_number, window_ok, window_number}
 use Rattle.model.specs.Checked.{Accepted, AcceptedPoint, AcceptedWindow, Checked, early_numbers, every, holds_early, is_early, is_in}
+use Rattle.std.specs.Prelude.{Option, Some, None}
+use Rattle.plan.specs.Build.{RefuseEdge}
 
 -- ---- a number that is 0 passed every test
 
@@ -101,24 +99,24 @@ mask_below m n s h k = go (dec_lt s n)
 
 -- ---- edges
 
-is_if : (b : Bool) (x : EdgeRead) (e : Edge) → pick b x Not ≡ Is e → (b ≡ true) × (x ≡ Is e)
+is_if : (b : Bool) (x : Option Edge) (e : Edge) → pick b x None ≡ Some e → (b ≡ true) × (x ≡ Some e)
 is_if true x e h = (refl, h)
 is_if false x e h = let z : ◌≡◌ {A = ℕ} 0 1 = cc in absurd (omega arith)
 
-step_zero : (b : Bool) (es : List Edge) (n f t k : ℕ) (r : EdgeRead) → edge_step_number (pick b (RefuseEdge 10) (read_edge es n f t k r)) ≡ 0
-    → (b ≡ false) × (e : Edge) × (r ≡ Is e) × (has_edge es n f t k ≡ false)
+step_zero : (b : Bool) (es : List Edge) (n f t k : ℕ) (r : Option Edge) → edge_step_number (pick b (RefuseEdge 10) (read_edge es n f t k r)) ≡ 0
+    → (b ≡ false) × (e : Edge) × (r ≡ Some e) × (has_edge es n f t k ≡ false)
 step_zero true es n f t k r p = absurd (omega arith)
-step_zero false es n f t k Not p = absurd (omega arith)
-step_zero false es n f t k (Is e) p = go (has_edge es n f t k) refl p
+step_zero false es n f t k None p = absurd (omega arith)
+step_zero false es n f t k (Some e) p = go (has_edge es n f t k) refl p
   where
-    go : (b : Bool) → has_edge es n f t k ≡ b → edge_step_number (fresh_edge b e) ≡ 0 → (false ≡ false) × (e' : Edge) × (Is e ≡ Is e') × (has_edge es n f t k ≡ false)
+    go : (b : Bool) → has_edge es n f t k ≡ b → edge_step_number (fresh_edge b e) ≡ 0 → (false ≡ false) × (e' : Edge) × (Some e ≡ Some e') × (has_edge es n f t k ≡ false)
     go true i q = absurd (omega arith)
     go false i q = (refl, e, refl, i)
 
-kind_low : (f t c k g : ℕ) (e : Edge) → with_kind f t c (kind_of k g) ≡ Is e → g ≤ 1023
+kind_low : (f t c k g : ℕ) (e : Edge) → with_kind f t c (kind_of k g) ≡ Some e → g ≤ 1023
 kind_low f t c k g e h = go (ltb 1023 g) refl h
   where
-    go : (b : Bool) → ltb 1023 g ≡ b → with_kind f t c (pick b Wrong (kind_at k g)) ≡ Is e → g ≤ 1023
+    go : (b : Bool) → ltb 1023 g ≡ b → with_kind f t c (pick b None (kind_at k g)) ≡ Some e → g ≤ 1023
     go true i q = let z : ◌≡◌ {A = ℕ} 0 1 = cc in absurd (omega arith)
     go false i q = ltb-false 1023 g i
 
@@ -135,8 +133,8 @@ entry_good S es n e p =
     let k = kind_number e.kind in
     let g = gap_of e.kind in
     let (a, x, r, h) = step_zero (leb 32 n) es n f t k (edge_of S f t k g c) p in
-    let (b₁, r₁) = is_if (ltb f S) (pick (ltb t S) (pick (leb c 15) (with_kind f t c (kind_of k g)) Not) Not) x r in
-    let (b₂, r₂) = is_if (ltb t S) (pick (leb c 15) (with_kind f t c (kind_of k g)) Not) x r₁ in
+    let (b₁, r₁) = is_if (ltb f S) (pick (ltb t S) (pick (leb c 15) (with_kind f t c (kind_of k g)) None) None) x r in
+    let (b₂, r₂) = is_if (ltb t S) (pick (leb c 15) (with_kind f t c (kind_of k g)) None) x r₁ in
     let (b₃, r₃) = is_if (leb c 15) (with_kind f t c (kind_of k g)) x r₂ in
     (leb-false 32 n a, (ltb-true f S b₁, ltb-true t S b₂, leb-true c 15 b₃, kind_low f t c k g x r₃), h)
 
@@ -356,10 +354,10 @@ unfolding first_below
 first_early f zero h = refl
 first_early f (suc n) h = pick_early (eqb (first_below f n) 0) (f n) (first_below f n) (h n) (first_early f n h)
 
-step_is_early : (b : Bool) (es : List Edge) (n f t k : ℕ) (r : EdgeRead) → is_early (edge_step_number (pick b (RefuseEdge 10) (read_edge es n f t k r))) ≡ true
+step_is_early : (b : Bool) (es : List Edge) (n f t k : ℕ) (r : Option Edge) → is_early (edge_step_number (pick b (RefuseEdge 10) (read_edge es n f t k r))) ≡ true
 step_is_early true es n f t k r = refl
-step_is_early false es n f t k Not = refl
-step_is_early false es n f t k (Is e) = go (has_edge es n f t k)
+step_is_early false es n f t k None = refl
+step_is_early false es n f t k (Some e) = go (has_edge es n f t k)
   where
     go : (b : Bool) → is_early (edge_step_number (fresh_edge b e)) ≡ true
     go true = refl

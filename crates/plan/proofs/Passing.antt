@@ -1,9 +1,9 @@
 -- A refusal that is passed on. Assumes nothing.
-use Rattle.std.specs.Prelude.{◌≡◌, ◌≤◌, ◌<◌, ℕ, Option, Some, None, Result, Ok, Err, ok_or, IsErrAnd, List, length, get_or}
+use Rattle.std.specs.Prelude.{◌≡◌, ◌≤◌, ℕ, Option, Some, None, Result, Ok, Err, ok_or, IsErrAnd, List, length, get_or}
 use Rattle.std.specs.Slice.{IsItemAt}
 use Rattle.std.proofs.lemmas.List.{get_or_default}
 use Rattle.std.proofs.Common.{Bor}
-use mathlib.Core.Path.{sym, ◌∙◌, refl, ap}
+use mathlib.Core.Path.{◌∙◌, refl, ap}
 use Rattle.std.proofs.lemmas.Result.{err_from_is_err_and}
 use Rattle.plan.specs.declared.reasons.Refusal.{Refusal}
 use Rattle.plan.specs.declared.Plan.{Plan}

@@ -1,7 +1,7 @@
 use Rattle.plan.proofs.Steps.{change_wrong, change_sealed, change_none}
 use Rattle.plan.proofs.Passing.{passed, refused_some}
 use Rattle.plan.specs.Refusals.{number_of}
-use mathlib.Core.Path.{◌≡◌, ◌∙◌, ap}
+use mathlib.Core.Path.{◌∙◌, ap}
 use Rattle.plan.proofs.check_change.Goals as goal
 
 pub returns-in_err-check_plan : goal.returns-in_err-check_plan

@@ -1,7 +1,6 @@
-use Rattle.std.specs.Prelude.{◌≡◌}
 use Rattle.plan.specs.Build.{entry_number, edge_step_number}
 use Rattle.plan.proofs.Passing.{passed}
-use mathlib.Core.Path.{◌∙◌, sym, ap}
+use mathlib.Core.Path.{◌∙◌, ap}
 use Rattle.plan.proofs.check_edge.Goals as goal
 
 pub returns-in_err-next_edge : goal.returns-in_err-next_edge

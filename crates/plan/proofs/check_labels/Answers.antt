@@ -1,4 +1,4 @@
-use Rattle.std.specs.Prelude.{◌≡◌, ◌≤◌}
+use Rattle.std.specs.Prelude.{◌≤◌}
 use Rattle.std.proofs.lemmas.Result.{err_from_is_err_and}
 use Rattle.plan.specs.Build.{labels_number, label_number, no_label}
 use Rattle.plan.proofs.Passing.{passed, missing, refused_some, got_none, got_some}

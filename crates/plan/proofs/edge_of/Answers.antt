@@ -1,5 +1,5 @@
-use Rattle.plan.specs.Build.{edge_of, with_kind}
-use mathlib.Core.Path.{◌∙◌, sym, ap}
+use Rattle.plan.specs.Build.{edge_of}
+use mathlib.Core.Path.{◌∙◌, sym}
 use borrow.Author.Tests.{le-ltb, lt-ltb, le-leb, lt-leb}
 use Rattle.plan.proofs.edge_of.Goals as goal
 

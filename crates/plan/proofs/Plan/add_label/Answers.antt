@@ -1,5 +1,5 @@
 use native.Mathlib.Omega.{arith}
-use mathlib.Core.Path.{◌≡◌, ◌∙◌, sym, ap}
+use mathlib.Core.Path.{◌∙◌, sym, ap}
 use Rattle.plan.specs.Refusals.{number_of}
 use Rattle.plan.proofs.Passing.{gives_back, lets_through}
 use Rattle.plan.proofs.Steps.{label_room, label_refused, label_stopped, label_added}
