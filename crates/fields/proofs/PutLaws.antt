@@ -5,8 +5,7 @@ use Rattle.std.proofs.Common.{arith, zero-add, sym, ◌∙◌, ap, ap₂, append
 use Rattle.std.proofs.Math.Seq.{drop-append-add}
 use borrow.Author.Tests.{le-leb, leb-true, ne_eqb}
 use Rattle.fields.specs.Fields.{put_at}
-use Rattle.fields.specs.declared.Written.TheVariants.{Bytes, Refused}
-use Rattle.fields.specs.Put.{outcome, written}
+use Rattle.fields.specs.Put.{Bytes, Refused, outcome, written}
 
 module _ (m : ℕ) (bs out : List ℕ) where
   pub write_refused : (n len : ℕ) → m ≡ n → (n ≡ 0 → ⊥) → (Refused n ≡ outcome m len) × (out ≡ written m bs out)

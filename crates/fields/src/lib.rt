@@ -3,7 +3,11 @@
 
 ghost use Rattle.std.specs.Prelude.{◌≡◌, ◌+◌, ◌-◌, ◌*◌, ◌≤◌, ◌<◌, length, drop, take, ◌++◌};
 ghost use Rattle.integers.specs.Bytes.{word};
-ghost use Rattle.fields.specs.Fields.{row, row_of, may_stand, length_fits, count_fits, field_at, field_number, part_of, field_body, put_at, join, number8};
+ghost use Rattle.fields.specs.Fields.{row, row_of, may_stand, length_fits, count_fits, field_at, refused_with, part_of, field_body, put_at, number8};
+ghost use Rattle.fields.specs.Told.{field_of};
+ghost use Rattle.plan.specs.Refusals.{refusal_number};
+
+use plan::Refusal;
 
 // A row of the table of tags: the stages at which the tag may stand, the stage after it, the length of its body.
 #[derive(Clone, Copy)]
@@ -18,14 +22,19 @@ pub struct Row {
 #[derive(Clone, Copy)]
 pub enum Field {
     Body { tag: u8, start: usize, len: usize },
-    Wrong(u8),
+    Wrong(Refusal),
 }
 
-// What a writer answers: how many bytes it wrote, or the refusal.
-#[derive(Clone, Copy)]
-pub enum Written {
-    Bytes(usize),
-    Refused(u8),
+impl Field {
+    // Why a file is refused that goes on with this field. A field that is not refused stands where none may.
+    pub fn refusal(self) -> Refusal
+        ensures { refusal_number result ≡ refused_with (field_of self) }
+    {
+        match self {
+            Field::Body { .. } => Refusal::TagOutOfPlace,
+            Field::Wrong(refusal) => refusal,
+        }
+    }
 }
 
 fn row_with(first: u8, last: u8, next: u8, len: usize) -> Row
@@ -93,39 +102,30 @@ pub fn word(high: u8, low: u8) -> u16
 // The field at a position of a file, at a stage of it.
 #[tactic(auto, unfolding(crate::specs::Fields::field_at, crate::specs::Fields::checked_field))]
 pub fn read_field(s: &[u8], at: usize, stage: u8) -> Field
-    ensures { result ≡ field_at s.now at stage }
+    ensures { field_of result ≡ field_at s.now at stage }
 {
     let left = s.len().saturating_sub(at);
     if left < 3 {
-        return Field::Wrong(1);
+        return Field::Wrong(Refusal::CutShort);
     }
     let tag = s[at];
     let len = word(s[at + 1], s[at + 2]) as usize;
     if !may_stand(stage, tag) {
-        return Field::Wrong(2);
+        return Field::Wrong(Refusal::TagOutOfPlace);
     }
     if !length_fits(tag, len) {
-        return Field::Wrong(3);
+        return Field::Wrong(Refusal::WrongLength);
     }
     if !count_fits(tag, len) {
-        return Field::Wrong(9);
+        return Field::Wrong(Refusal::BadCount);
     }
     if left - 3 < len {
-        return Field::Wrong(1);
+        return Field::Wrong(Refusal::CutShort);
     }
     Field::Body {
         tag,
         start: at + 3,
         len,
-    }
-}
-
-pub fn field_number(f: Field) -> u8
-    ensures { result ≡ field_number f }
-{
-    match f {
-        Field::Body { .. } => 0,
-        Field::Wrong(n) => n,
     }
 }
 
@@ -143,7 +143,7 @@ pub fn part(s: &[u8], start: usize, len: usize) -> &[u8]
 // The body of a field, as a part of the file; none where the field is refused. An enum holds no reference, so the field's answer and its
 // body are handed out by two functions.
 pub fn field_body(s: &[u8], f: Field) -> &[u8]
-    ensures { result.now ≡ field_body s.now f }
+    ensures { result.now ≡ field_body s.now (field_of f) }
 {
     match f {
         Field::Body { start, len, .. } => part(s, start, len),

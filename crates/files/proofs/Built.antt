@@ -10,7 +10,7 @@ use mathlib.Core.Logic.{⊎_elim}
 use lib.Dec.{eqb, leb, ltb}
 use lib.IntN.{ℤ, pos}
 use borrow.Author.Tests.{eqb-false}
-use Rattle.plan.specs.Build.{pick, kind_at, kind_number, gap_of, fresh_edge, read_edge, has_edge, edge_of, edge_step, change_number, add_step, add_edge, label_number, add_label, open_number, open_plan, plan_number, blank, done, refused_at, with_edge, with_label, answer_number}
+use Rattle.plan.specs.Build.{Built, EdgeStep, AddEdge, RefuseEdge, Answer, Done, Refused, pick, kind_at, kind_number, gap_of, fresh_edge, read_edge, has_edge, edge_of, edge_step, change_number, add_step, add_edge, label_number, add_label, open_number, open_plan, plan_number, blank, done, refused_at, with_edge, with_label, answer_number}
 use Rattle.plan.specs.Calls.{Call, call, edge_at, label_at, edge_call, label_call, after, and_then, build_edges, build_labels}
 use Rattle.plan.specs.declared.Kind.{Kind}
 use Rattle.plan.specs.declared.Kind.TheVariants.{Stay, Any, Up, Down, Abs}
@@ -18,13 +18,8 @@ use Rattle.plan.specs.declared.KindRead.TheVariants.{Of}
 use Rattle.plan.specs.declared.Edge.{Edge}
 use Rattle.plan.specs.declared.Label.{Label}
 use Rattle.plan.specs.declared.Plan.{Plan}
-use Rattle.plan.specs.declared.Built.{Built}
 use Rattle.plan.specs.declared.EdgeRead.{EdgeRead}
 use Rattle.plan.specs.declared.EdgeRead.TheVariants.{Is, Not}
-use Rattle.plan.specs.declared.EdgeStep.{EdgeStep}
-use Rattle.plan.specs.declared.EdgeStep.TheVariants.{AddEdge, RefuseEdge}
-use Rattle.plan.specs.declared.Answer.{Answer}
-use Rattle.plan.specs.declared.Answer.TheVariants.{Done, Refused}
 use Rattle.plan.proofs.Kept.{step_read, edge_back}
 use Rattle.plan.proofs.Cases.{AddedEdge, edge_cases, label_cases}
 use Rattle.plan.proofs.Again.{build_number}

@@ -2,13 +2,13 @@
 use native.Mathlib.Omega.{arith}
 use Rattle.files.proofs.Sizes.{write_room, plan_length_lem}
 use Rattle.files.specs.Writer.{plan_bytes, plan_length}
-use Rattle.fields.specs.declared.Written.TheVariants.{Bytes}
 use Rattle.fields.proofs.PutLaws.{write_refused, write_done, put_front}
 use Rattle.plan.specs.Counts.{count_is}
 use lib.ListN.{length}
 use mathlib.Core.List.{[]}
 use mathlib.Core.Path.{sym, ◌∙◌, ap}
 use Rattle.files.proofs.write_plan.Goals as goal
+use Rattle.fields.specs.Put.{Bytes}
 
 pub returns-then-wrong-ne0 : goal.returns-then-wrong-ne0
 returns-then-wrong-ne0 c = record { answer = (write_refused _ [] [] _ _ (sym c.write_number-wrong.ensures) c.if-wrong-ne0.true).0; list = (write_refused _ _ _ _ 0 (sym c.write_number-wrong.ensures) c.if-wrong-ne0.true).1 }
