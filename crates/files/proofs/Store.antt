@@ -10,11 +10,13 @@ use lib.ListN.{length, get_or, take, drop, length-append, length-drop, drop_of_l
 use lib.Seq.{take_all, drop-drop, length-take-le, get_or-take}
 use lib.IntN.{ℤ}
 use borrow.Rule.Slice.PartMut.{mid_of, put_mid}
-use borrow.Author.Tests.{ne_eqb, le-leb, lt-leb}
+use borrow.Author.Tests.{eqb-true, eqb-false, le-leb, lt-leb}
+use Rattle.std.specs.Prelude.{eqb, leb}
+use Rattle.integers.specs.Pick.{pick}
 use Rattle.readings.specs.Codec.{bytes_of, encoded, encode_number}
 use Rattle.plan.specs.Counts.{count_ok}
 use Rattle.readings.proofs.Trips.{bytes_length}
-use Rattle.plan.specs.Build.{plan_number, no_edge, no_label}
+use Rattle.plan.specs.Build.{plan_number, sealed_number, no_edge, no_label}
 use Rattle.plan.specs.declared.Edge.{Edge}
 use Rattle.plan.specs.declared.Label.{Label}
 use Rattle.plan.specs.declared.Plan.{Plan}
@@ -63,28 +65,38 @@ counted_edges es n h = ap (edges_bytes (take n es)) (length-take-le n es h) ∙ 
 pub counted_labels : (ls : List Label) (n : ℕ) → n ≤ length ls → labels_bytes (take n ls) (length (take n ls)) ≡ labels_bytes ls n
 counted_labels ls n h = ap (labels_bytes (take n ls)) (length-take-le n ls h) ∙ labels_front ls n n (omega arith)
 
-module _ (p : Plan) (n room w : ℕ) (ew : w ≡ plan_number p) where
-  pub plan_wrong : (w ≡ 0 → ⊥) → w ≡ write_number p n room
-  unfolding write_number
-  plan_wrong h = rw (← ew, ne_eqb w 0 h)
+module _ (p : Plan) (n room : ℕ) where
+  pub not_usable : (x : ℕ) → x ≡ sealed_number p → (x ≡ 0 → ⊥) → x ≡ write_number p n room
+  unfolding sealed_number write_number
+  not_usable x e h = go (eqb (plan_number p) 0) p.sealed e
+    where
+      go : (a b : Bool) → x ≡ pick a (pick b 0 11) (plan_number p) → x ≡ pick a (pick b (pick (count_ok n) (pick (leb (plan_length p n) room) 0 15) 9) 11) (plan_number p)
+      go false b w = w
+      go true false w = w
+      go true true w = absurd (h w)
 
-  module _ (h : w ≡ 0) where
-    pub unsealed : p.sealed ≡ false → 11 ≡ write_number p n room
-    unfolding write_number
-    unsealed s = rw (← ew, h, s)
+  module _ (e : 0 ≡ sealed_number p) where
+    pub usable : (plan_number p ≡ 0) × (p.sealed ≡ true)
+    unfolding sealed_number
+    usable = go (eqb (plan_number p) 0) refl p.sealed refl e
+      where
+        go : (a : Bool) → eqb (plan_number p) 0 ≡ a → (b : Bool) → p.sealed ≡ b → 0 ≡ pick a (pick b 0 11) (plan_number p) → (plan_number p ≡ 0) × (p.sealed ≡ true)
+        go false qa b qb w = absurd (eqb-false (plan_number p) 0 qa (sym w))
+        go true qa false qb w = absurd (eqb-false 11 0 refl (sym w))
+        go true qa true qb w = (eqb-true (plan_number p) 0 qa, qb)
 
-    module _ (s : p.sealed ≡ true) (b : Bool) (eb : b ≡ count_ok n) where
+    module _ (b : Bool) (eb : b ≡ count_ok n) where
       pub wrong_count : b ≡ false → 9 ≡ write_number p n room
       unfolding write_number
-      wrong_count q = rw (← ew, h, s, ← eb, q)
+      wrong_count q = let u = usable in rw (u.0, u.1, ← eb, q)
 
       pub no_room : b ≡ true → room < plan_length p n → 15 ≡ write_number p n room
       unfolding write_number plan_length
-      no_room q l = rw (← ew, h, s, ← eb, q, lt-leb (plan_length p n) room l)
+      no_room q l = let u = usable in rw (u.0, u.1, ← eb, q, lt-leb (plan_length p n) room l)
 
       pub writes : b ≡ true → plan_length p n ≤ room → 0 ≡ write_number p n room
       unfolding write_number plan_length
-      writes q l = rw (← ew, h, s, ← eb, q, le-leb (plan_length p n) room l)
+      writes q l = let u = usable in rw (u.0, u.1, ← eb, q, le-leb (plan_length p n) room l)
 
 -- the readings go into the rest of the list, behind their tag and length
 tail_put : (xs : List ℕ) (a : ℕ) (bs : List ℕ) → a + length bs ≤ length xs → put_mid a (length xs - a) xs (bs ++ drop (length bs) (mid_of a (length xs - a) xs)) ≡ put_at xs a bs

@@ -6,6 +6,13 @@ use Rattle.plan.specs.Build.{Built, Answer, Done, Refused, grid_ok, open_plan, a
 use Rattle.plan.specs.declared.Plan.{Plan}
 use Rattle.fields.specs.Fields.{Field, Body, Wrong, row_of, field_at, field_number, part_of, word_at}
 
+-- what reading a plan file gives: the plan, and where the body of its readings starts and how long it is
+pub record FileRead : Type 0 where
+  pub answer : Answer
+  pub plan : Plan
+  pub start : ℕ
+  pub len : ℕ
+
 -- an unsealed plan with every number 0
 abbrev pub no_plan : Plan
 no_plan = blank (pos 0) (pos 0) 0 0 0
