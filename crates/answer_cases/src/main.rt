@@ -42,11 +42,9 @@ fn next_file() -> bool {
 }
 
 fn main() {
-    let mut i: usize = 0;
-    while i < 4096 {
+    for _ in 0..4096 {
         if !next_file() {
             return;
         }
-        i += 1;
     }
 }

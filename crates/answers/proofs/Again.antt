@@ -13,14 +13,12 @@ use lib.IntN.{ℤ, pos, negsuc}
 use borrow.Author.Tests.{eq-eqb, ne_eqb, eqb-false, le-leb}
 use Rattle.integers.specs.Pick.{pick}
 use Rattle.integers.specs.Bytes.{word_back, bits16, signed_bits}
-use Rattle.fields.specs.declared.Field.TheVariants.{Body}
-use Rattle.fields.specs.Fields.{row_of, may_stand, length_fits, count_fits, field_at, part_of, field, bytes8}
+use Rattle.fields.specs.Fields.{Body, row_of, may_stand, length_fits, count_fits, field_at, part_of, field, bytes8}
 use Rattle.fields.proofs.Laws.{field_read, field_part}
 use Rattle.fields.proofs.Eight.{number_back}
 use Rattle.fields.specs.Put.{written}
-use Rattle.answers.specs.declared.AnswerRead.TheVariants.{Runs, Refusal}
 use Rattle.answers.specs.Runs.{is_refusal, whole, number_at, whole_at, last_before, runs_ok}
-use Rattle.answers.specs.Reader.{body_fits, body_last, runs_from, refusal_read, answer_file, on_read, read_answer, filled, run_numbers, runs_of}
+use Rattle.answers.specs.Reader.{Runs, Refusal, body_fits, body_last, runs_from, refusal_read, answer_file, on_read, read_answer, filled, run_numbers, runs_of}
 use Rattle.answers.specs.Writer.{run_field, runs_bytes, answer_bytes, refusal_bytes, answer_length, answer_number, refusal_number, after_answer, after_refusal}
 use Rattle.answers.specs.Rules.{run_parts, run_small, run_level, runs_each, last_next, last_first}
 use Rattle.answers.specs.Lengths.{run_bytes_length, answer_length_lem, answer_room}

@@ -15,19 +15,14 @@ use borrow.Author.Tests.{eqb-true, eqb-false, eq-eqb, ne_eqb, le-leb}
 use Rattle.integers.specs.Pick.{pick}
 use Rattle.integers.specs.Bytes.{word_high, word_low, signed16, bits_signed, signed_fits}
 use Rattle.readings.specs.Trips.{AllBytes}
-use Rattle.fields.specs.declared.Field.{Field}
-use Rattle.fields.specs.declared.Field.TheVariants.{Body, Wrong}
-use Rattle.fields.specs.Fields.{row_of, field_at, field_number, part_of, word_at, field, number8, bytes8}
+use Rattle.fields.specs.Fields.{Field, Body, Wrong, row_of, field_at, field_number, part_of, word_at, field, number8, bytes8}
 use Rattle.fields.specs.Laws.{FieldRead}
 use Rattle.fields.proofs.Laws.{field_is, field_bytes, part_length, part_bytes, spell}
 use Rattle.fields.proofs.Tags.{at_5}
 use Rattle.fields.proofs.Eight.{eight_back}
-use Rattle.fields.specs.Put.{outcome, written}
-use Rattle.fields.specs.declared.Written.TheVariants.{Bytes}
-use Rattle.answers.specs.declared.AnswerRead.{AnswerRead}
-use Rattle.answers.specs.declared.AnswerRead.TheVariants.{Runs, Refusal, Unread}
+use Rattle.fields.specs.Put.{Bytes, outcome, written}
 use Rattle.answers.specs.Runs.{is_refusal, run_fits, whole, number_at, whole_at, last_before, run_ok, runs_ok}
-use Rattle.answers.specs.Reader.{body_fits, body_last, on_run, runs_from, refusal_read, on_head, answer_file, in_room, on_read, read_answer, filled, run_numbers, run_body, runs_of}
+use Rattle.answers.specs.Reader.{AnswerRead, Runs, Refusal, Unread, body_fits, body_last, on_run, runs_from, refusal_read, on_head, answer_file, in_room, on_read, read_answer, filled, run_numbers, run_body, runs_of}
 use Rattle.answers.specs.Writer.{run_field, runs_bytes, answer_bytes, refusal_bytes, answer_number, answer_written, after_answer, refusal_number, refusal_written, after_refusal}
 use Rattle.answers.specs.Sizes.{run_size, cost_size, file_long, runs_length}
 use Rattle.answers.specs.Rules.{level_fits_lem}

@@ -7,11 +7,9 @@ use lib.ListN.{replicate}
 use lib.IntN.{ℤ, pos}
 use Rattle.integers.specs.Bytes.{signed16, bits16}
 use Rattle.fields.specs.Fields.{row_of, may_stand, length_fits, count_fits, checked_field, field_at, part_of, number8, bytes8}
-use Rattle.fields.specs.Put.{outcome, written}
-use Rattle.fields.specs.declared.Written.TheVariants.{Bytes}
-use Rattle.answers.specs.declared.AnswerRead.TheVariants.{Runs}
+use Rattle.fields.specs.Put.{Bytes, outcome, written}
 use Rattle.answers.specs.Runs.{run_fits, whole, level_fits, last_before, run_ok, runs_ok}
-use Rattle.answers.specs.Reader.{body_fits, body_last, runs_from, answer_file, read_answer, runs_of, filled}
+use Rattle.answers.specs.Reader.{Runs, body_fits, body_last, runs_from, answer_file, read_answer, runs_of, filled}
 use Rattle.answers.specs.Writer.{runs_bytes, answer_bytes, answer_number, answer_written, after_answer}
 
 abbrev example : List ℕ

@@ -9,15 +9,11 @@ use lib.Dec.{eqb}
 use lib.ListN.{length, get_or, take, length-take}
 use borrow.Author.Tests.{eqb-true}
 use Rattle.integers.specs.Pick.{pick}
-use Rattle.fields.specs.Fields.{field_at, part_of, word_at, number8}
+use Rattle.fields.specs.Fields.{Field, Body, Wrong, field_at, part_of, word_at, number8}
 use Rattle.fields.proofs.Laws.{field_is}
 use Rattle.fields.proofs.Prefix.{body_short, same_field, same_closed, same_end, same_part}
-use Rattle.fields.specs.declared.Field.{Field}
-use Rattle.fields.specs.declared.Field.TheVariants.{Body, Wrong}
-use Rattle.answers.specs.declared.AnswerRead.{AnswerRead}
-use Rattle.answers.specs.declared.AnswerRead.TheVariants.{Runs, Unread}
 use Rattle.answers.specs.Runs.{run_fits}
-use Rattle.answers.specs.Reader.{body_fits, body_last, on_run, runs_from, refusal_read, on_head, answer_file}
+use Rattle.answers.specs.Reader.{AnswerRead, Runs, Unread, body_fits, body_last, on_run, runs_from, refusal_read, on_head, answer_file}
 use Rattle.answers.specs.Sizes.{run_size, cost_size}
 use Rattle.answers.specs.Rules.{run_kept}
 

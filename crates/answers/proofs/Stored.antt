@@ -1,19 +1,17 @@
--- Five numbers stored one after another.
+-- Numbers stored over a part of a list.
 -- Assumes nothing.
-use Prim.Native.Nat.{ℕ, suc, ◌+◌}
+use Prim.Native.Nat.{ℕ, ◌+◌, ◌-◌, ◌≤◌}
 use native.Mathlib.Omega.{arith}
-use mathlib.Core.Path.{◌≡◌}
-use mathlib.Core.List.{List, [], ◌∷◌}
-use lib.ListN.{set}
-use lib.Seq.{sets}
+use mathlib.Core.Path.{◌≡◌, sym, ◌∙◌, ap, ap₂}
+use mathlib.Core.List.{List, ◌++◌, append_assoc}
+use lib.ListN.{length, take, drop}
+use lib.Seq.{sets, drop-drop}
 use lib.IntN.{ℤ}
+use borrow.Rule.Slice.PartMut.{put_mid}
+use Rattle.std.proofs.lemmas.List.Edits.{sets-eq}
 
-pub stored :
-    (l : List ℤ) (at : ℕ) {a b c d e a' b' c' d' e' : ℤ} → a ≡ a' → b ≡ b' → c ≡ c' → d ≡ d' → e ≡ e' →
-    set (set (set (set (set l at a) (at + 1) b) (at + 2) c) (at + 3) d) (at + 4) e ≡ sets l at (a' ∷ (b' ∷ (c' ∷ (d' ∷ (e' ∷ [])))))
-stored l at p q r s t =
-    let k₁ : at + 1 ≡ suc at = omega arith in
-    let k₂ : at + 2 ≡ suc (suc at) = omega arith in
-    let k₃ : at + 3 ≡ suc (suc (suc at)) = omega arith in
-    let k₄ : at + 4 ≡ suc (suc (suc (suc at))) = omega arith in
-    rw (k₁, k₂, k₃, k₄, ← p, ← q, ← r, ← s, ← t)
+pub stored : (l : List ℤ) (at n : ℕ) (xs ys : List ℤ) → ys ≡ xs → length xs ≡ n → at + n ≤ length l → put_mid at (at + n - at) l ys ≡ sets l at xs
+stored l at n xs ys e k h =
+    let m : at + n - at ≡ length xs = omega arith in
+    ap₂ (λ (a : List ℤ) (i : ℕ). take at l ++ (a ++ drop i (drop at l))) e m ∙ ap (λ (a : List ℤ). take at l ++ (xs ++ a)) (drop-drop (length xs) at l) ∙
+    sym (append_assoc (take at l) xs (drop (at + length xs) l)) ∙ sym (sets-eq xs l at (omega arith))

@@ -8,12 +8,9 @@ use mathlib.Core.List.{List}
 use lib.ListN.{length, get_or}
 use lib.IntN.{ℤ}
 use borrow.Author.Tests.{eq-eqb, ne_eqb}
-use Rattle.fields.specs.declared.Field.TheVariants.{Body, Wrong}
-use Rattle.fields.specs.Fields.{field_at, field_number, part_of, number8}
-use Rattle.answers.specs.declared.AnswerRead.{AnswerRead}
-use Rattle.answers.specs.declared.AnswerRead.TheVariants.{Runs, Refusal, Unread}
+use Rattle.fields.specs.Fields.{Body, Wrong, field_at, field_number, part_of, number8}
 use Rattle.answers.specs.Runs.{is_refusal}
-use Rattle.answers.specs.Reader.{body_fits, body_last, runs_from, refusal_read, answer_file, in_room, on_read, read_answer, filled}
+use Rattle.answers.specs.Reader.{AnswerRead, Runs, Refusal, Unread, body_fits, body_last, runs_from, refusal_read, answer_file, in_room, on_read, read_answer, filled}
 
 module _ (s : List ℕ) (cost at prev count : ℕ) where
   pub run_wrong : (k n : ℕ) → 0 < k → field_at s at 6 ≡ Wrong n → runs_from k s cost at prev count ≡ Unread n

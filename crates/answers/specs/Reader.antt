@@ -2,12 +2,8 @@
 use Rattle.std.specs.Prelude.{ℕ, zero, suc, ◌+◌, ◌*◌, List, [], ◌∷◌, ◌++◌, Bool, false, length, get_or, drop, leb, eqb, ℤ, pos}
 use Rattle.integers.specs.Pick.{pick}
 use Rattle.integers.specs.Bytes.{signed16}
-use Rattle.fields.specs.Fields.{field_at, field_number, part_of, word_at, number8}
-use Rattle.fields.specs.declared.Field.{Field}
-use Rattle.fields.specs.declared.Field.TheVariants.{Body, Wrong}
+use Rattle.fields.specs.Fields.{Field, Body, Wrong, field_at, field_number, part_of, word_at, number8}
 use Rattle.answers.specs.Runs.{is_refusal, run_fits}
-use Rattle.answers.specs.declared.AnswerRead.{AnswerRead}
-use Rattle.answers.specs.declared.AnswerRead.TheVariants.{Runs, Refusal, Unread}
 
 -- the refusal of the file itself, 0 where it was read
 abbrev pub read_number : AnswerRead → ℕ

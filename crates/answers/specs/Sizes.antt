@@ -5,14 +5,11 @@ use Rattle.std.proofs.Common.{arith, add-one, sym, ◌∙◌, ap, length-append,
 use Rattle.std.proofs.lemmas.List.Edits.{sets}
 use Rattle.integers.specs.Pick.{pick}
 use Rattle.readings.proofs.Front.{front_more}
-use Rattle.fields.specs.declared.Field.{Field}
-use Rattle.fields.specs.declared.Field.TheVariants.{Body, Wrong}
-use Rattle.fields.specs.Fields.{row_of, field_at, field_number, part_of, number8}
+use Rattle.fields.specs.Fields.{Field, Body, Wrong, row_of, field_at, field_number, part_of, number8}
 use Rattle.fields.proofs.Laws.{field_is}
 use Rattle.fields.proofs.Tags.{at_6, has_length}
-use Rattle.answers.specs.declared.AnswerRead.TheVariants.{Runs, Refusal, Unread}
 use Rattle.answers.specs.Runs.{is_refusal}
-use Rattle.answers.specs.Reader.{body_fits, body_last, on_run, runs_from, refusal_read, on_head, answer_file, run_numbers, run_body, runs_of}
+use Rattle.answers.specs.Reader.{Runs, Refusal, Unread, body_fits, body_last, on_run, runs_from, refusal_read, on_head, answer_file, run_numbers, run_body, runs_of}
 
 never : {Q : Type 0} {m c n : ℕ} → Unread m ≡ Runs c n → Q
 never h = let z : ◌≡◌ {A = ℕ} 0 1 = cc in absurd (omega arith)

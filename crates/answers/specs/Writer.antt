@@ -3,8 +3,7 @@ use Rattle.std.specs.Prelude.{ℕ, zero, suc, ◌+◌, ◌*◌, ◌/◌, ◌%◌
 use Rattle.integers.specs.Pick.{pick}
 use Rattle.integers.specs.Bytes.{bits16}
 use Rattle.fields.specs.Fields.{field, bytes8}
-use Rattle.fields.specs.Put.{outcome, written}
-use Rattle.fields.specs.declared.Written.{Written}
+use Rattle.fields.specs.Put.{Written, outcome, written}
 use Rattle.answers.specs.Runs.{is_refusal, number_at, whole_at, runs_ok}
 
 -- the field of run i, of the first n runs

@@ -23,40 +23,31 @@ pub enum AnswerRead {
 pub const LAST_REFUSAL: u8 = 20;
 
 // The refusal numbers that an answer file may hold.
+#[tactic(auto, unfolding(crate::specs::Runs::is_refusal))]
 pub fn is_refusal(n: u8) -> bool
     ensures { result ≡ is_refusal n }
 {
-    if n == 0 {
-        return false;
-    }
-    n <= LAST_REFUSAL
+    n != 0 && n <= LAST_REFUSAL
 }
 
 // A run after one that ended at prev, 0 before the first.
+#[tactic(auto, unfolding(crate::specs::Runs::run_fits))]
 fn run_fits(prev: u32, first: u32, last: u32, state: u32, edge: u32) -> bool
     ensures { result ≡ run_fits prev first last state edge }
 {
-    if first == 0 {
-        return false;
-    }
-    if first - 1 != prev {
-        return false;
-    }
-    if last < first {
-        return false;
-    }
-    if (Plan::MAX_READINGS as u32) < last {
-        return false;
-    }
-    if (Plan::MAX_STATES as u32) <= state {
-        return false;
-    }
-    if prev == 0 {
-        return edge == 255;
-    }
-    edge < (Plan::MAX_EDGES as u32)
+    let edge_fits = if prev == 0 {
+        edge == 255
+    } else {
+        edge < (Plan::MAX_EDGES as u32)
+    };
+    first.checked_sub(1) == Some(prev)
+        && first <= last
+        && last <= (Plan::MAX_READINGS as u32)
+        && state < (Plan::MAX_STATES as u32)
+        && edge_fits
 }
 
+#[tactic(auto, unfolding(crate::specs::Reader::body_fits))]
 fn body_fits(prev: u32, b: &[u8]) -> bool
     ensures { result ≡ body_fits prev b.now }
 {
@@ -70,6 +61,7 @@ fn body_fits(prev: u32, b: &[u8]) -> bool
     run_fits(prev, first as u32, last as u32, state as u32, edge as u32)
 }
 
+#[tactic(auto, unfolding(crate::specs::Reader::body_last))]
 fn body_last(b: &[u8]) -> u32
     ensures { result ≡ body_last b.now }
 {
@@ -154,27 +146,18 @@ fn put_run(runs: &mut [i32], at: usize, b: &[u8])
     requires { (length b.now ≡ 8) × (at + 5 ≤ length runs.old) }
     ensures { runs.new ≡ sets runs.old at (run_numbers b.now) }
 {
-    let first = fields::word(b[0], b[1]) as i32;
-    let last = fields::word(b[2], b[3]) as i32;
-    let state = b[4] as i32;
-    let level = integers::signed16(b[5], b[6]) as i32;
-    let edge = b[7] as i32;
-    runs[at] = first;
-    runs[at + 1] = last;
-    runs[at + 2] = state;
-    runs[at + 3] = level;
-    runs[at + 4] = edge;
+    let first = i32::from(fields::word(b[0], b[1]));
+    let last = i32::from(fields::word(b[2], b[3]));
+    let level = i32::from(integers::signed16(b[5], b[6]));
+    runs[at..at + 5].copy_from_slice(&[first, last, i32::from(b[4]), level, i32::from(b[7])]);
 }
 
 fn fill_runs(s: &[u8], n: usize, runs: &mut [i32])
     requires { (11 + 11 * n ≤ length s.now) × (5 * n ≤ length runs.old) }
     ensures { runs.new ≡ runs_of s.now n ++ drop (5 * n) runs.old }
 {
-    let mut i = 0;
-    while i < n {
-        let b = fields::part(s, 14 + 11 * i, 8);
-        put_run(runs, 5 * i, b);
-        i += 1;
+    for i in 0..n {
+        put_run(runs, 5 * i, fields::part(s, 14 + 11 * i, 8));
     }
 }
 
@@ -208,25 +191,22 @@ pub fn read_answer(s: &[u8], runs: &mut [i32]) -> AnswerRead
 }
 
 // A run number as a natural one; below zero it is none that fits.
+#[tactic(auto, unfolding(crate::specs::Runs::whole))]
 fn whole(x: i32) -> u32
     ensures { result ≡ whole x }
 {
-    if x < 0 {
-        return 65536;
-    }
-    x as u32
+    u32::try_from(x).unwrap_or(65536)
 }
 
+#[tactic(auto, unfolding(crate::specs::Runs::level_fits))]
 fn level_fits(x: i32) -> bool
     ensures { result ≡ level_fits x }
 {
-    if x < -32768 {
-        return false;
-    }
-    x <= 32767
+    i16::try_from(x).is_ok()
 }
 
 // Run i keeps the rules, after one that ended at prev.
+#[tactic(auto, unfolding(crate::specs::Runs::run_ok))]
 fn run_ok(runs: &[i32], i: usize, prev: u32) -> bool
     requires { (5 * i + 5 ≤ length runs.now) × (prev ≡ last_before runs.now i) }
     ensures { result ≡ run_ok runs.now i }
@@ -236,10 +216,7 @@ fn run_ok(runs: &[i32], i: usize, prev: u32) -> bool
     let state = runs[5 * i + 2];
     let level = runs[5 * i + 3];
     let edge = runs[5 * i + 4];
-    if run_fits(prev, whole(first), whole(last), whole(state), whole(edge)) {
-        return level_fits(level);
-    }
-    false
+    run_fits(prev, whole(first), whole(last), whole(state), whole(edge)) && level_fits(level)
 }
 
 fn runs_ok(runs: &[i32], n: usize) -> bool
@@ -247,31 +224,23 @@ fn runs_ok(runs: &[i32], n: usize) -> bool
     ensures { result ≡ runs_ok runs.now n }
 {
     let mut prev: u32 = 0;
-    let mut i = 0;
-    while i < n {
+    for i in 0..n {
         if !run_ok(runs, i, prev) {
             return false;
         }
-        let last = runs[5 * i + 1];
-        prev = whole(last);
-        i += 1;
+        prev = whole(runs[5 * i + 1]);
     }
     true
 }
 
 // Refusals 17, 15.
+#[tactic(auto, unfolding(crate::specs::Writer::answer_number))]
 fn answer_number(runs: &[i32], room: usize) -> u8
     ensures { result ≡ answer_number runs.now room }
 {
     let numbers = runs.len();
-    if numbers == 0 {
-        return 17;
-    }
-    if numbers % 5 != 0 {
-        return 17;
-    }
     let n = numbers / 5;
-    if !runs_ok(runs, n) {
+    if numbers == 0 || numbers % 5 != 0 || !runs_ok(runs, n) {
         return 17;
     }
     if room < 11 + 11 * n {
@@ -280,30 +249,12 @@ fn answer_number(runs: &[i32], room: usize) -> u8
     0
 }
 
+#[tactic(auto, unfolding(fields::specs::Fields::bytes8))]
 fn put_cost(out: &mut [u8], cost: u64)
     ensures { out.new ≡ put_at out.old 0 (field 0x81 (bytes8 cost)) }
 {
-    let n1 = cost / 256;
-    let n2 = n1 / 256;
-    let n3 = n2 / 256;
-    let n4 = n3 / 256;
-    let n5 = n4 / 256;
-    let n6 = n5 / 256;
-    let n7 = n6 / 256;
-    let b = [
-        0x81,
-        0,
-        8,
-        (n7 % 256) as u8,
-        (n6 % 256) as u8,
-        (n5 % 256) as u8,
-        (n4 % 256) as u8,
-        (n3 % 256) as u8,
-        (n2 % 256) as u8,
-        (n1 % 256) as u8,
-        (cost % 256) as u8,
-    ];
-    fields::put(out, 0, &b);
+    let [a, b, c, d, e, f, g, h] = cost.to_be_bytes();
+    fields::put(out, 0, &[0x81, 0, 8, a, b, c, d, e, f, g, h]);
 }
 
 fn put_run_field(out: &mut [u8], at: usize, runs: &[i32], i: usize)
@@ -335,10 +286,8 @@ fn put_runs(out: &mut [u8], runs: &[i32], n: usize)
     requires { (5 * n ≤ length runs.now) × (runs_ok runs.now n ≡ true) × (11 + 11 * n ≤ length out.old) }
     ensures { out.new ≡ put_at out.old 11 (runs_bytes runs.now n) }
 {
-    let mut i = 0;
-    while i < n {
+    for i in 0..n {
         put_run_field(out, 11 + 11 * i, runs, i);
-        i += 1;
     }
 }
 
@@ -358,6 +307,7 @@ pub fn write_answer(cost: u64, runs: &[i32], out: &mut [u8]) -> Written
 }
 
 // Writes the answer file of a refusal to the front of out.
+#[tactic(auto, using(fields::proofs::PutLaws::put_front), unfolding(crate::specs::Writer::refusal_number, fields::specs::Put::outcome, fields::specs::Put::written))]
 pub fn write_refusal(number: u8, out: &mut [u8]) -> Written
     ensures answer { result ≡ refusal_written number (length out.old) }
     ensures list { out.new ≡ after_refusal number out.old }
@@ -368,7 +318,6 @@ pub fn write_refusal(number: u8, out: &mut [u8]) -> Written
     if out.len() < 4 {
         return Written::Refused(15);
     }
-    let b = [0x83, 0, 1, number];
-    fields::put(out, 0, &b);
+    fields::put(out, 0, &[0x83, 0, 1, number]);
     Written::Bytes(4)
 }

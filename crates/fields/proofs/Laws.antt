@@ -9,9 +9,7 @@ use borrow.Author.Tests.{le-ltb, ltb-false, leb-true, le-leb}
 use Rattle.integers.specs.Pick.{pick}
 use Rattle.integers.specs.Bytes.{word, word_high, word_low, word_back}
 use Rattle.readings.specs.Trips.{AllBytes}
-use Rattle.fields.specs.declared.Field.{Field}
-use Rattle.fields.specs.declared.Field.TheVariants.{Body, Wrong}
-use Rattle.fields.specs.Fields.{may_stand, length_fits, count_fits, checked_field, field_at, part_of, field}
+use Rattle.fields.specs.Fields.{Field, Body, Wrong, may_stand, length_fits, count_fits, checked_field, field_at, part_of, field}
 use Rattle.fields.specs.Laws.{FieldRead, bytes_at}
 
 -- a test that a body passed

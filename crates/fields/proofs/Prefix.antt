@@ -10,8 +10,7 @@ use Rattle.integers.specs.Pick.{pick}
 use Rattle.integers.specs.Bytes.{word}
 use Rattle.plan.specs.Counts.{count_ok}
 use Rattle.plan.specs.Counts.{count_is}
-use Rattle.fields.specs.declared.Field.TheVariants.{Body, Wrong}
-use Rattle.fields.specs.Fields.{row_of, may_stand, length_fits, count_fits, checked_field, field_at, part_of}
+use Rattle.fields.specs.Fields.{Body, Wrong, row_of, may_stand, length_fits, count_fits, checked_field, field_at, part_of}
 use Rattle.fields.proofs.Tags.{row_short, at_4}
 
 -- the longest body

@@ -1,12 +1,15 @@
 -- Bytes that are stored one after another, and the outcome of a writer.
 -- Assumes nothing.
-use Rattle.std.specs.Prelude.{ℕ, ◌+◌, ◌≤◌, ◌≡◌, refl, Bool, true, false, List, [], ◌++◌, leb, length, take, drop}
+use Rattle.std.specs.Prelude.{ℕ, ◌+◌, ◌≤◌, ◌≡◌, refl, Bool, true, false, List, [], ◌++◌, leb, length, take, drop, Result, IsErrAnd}
+use Rattle.std.proofs.lemmas.Result.{err_from_is_err_and}
+use Rattle.plan.specs.declared.reasons.Refusal.{Refusal}
+use Rattle.plan.specs.Refusals.{refusal_number}
+use Rattle.plan.proofs.Passing.{number_some}
 use Rattle.std.proofs.Common.{arith, zero-add, sym, ◌∙◌, ap, ap₂, append_assoc, append-nil, length-append, length-drop, take-append-drop, take_at, drop-drop, length-take-le}
 use Rattle.std.proofs.Math.Seq.{drop-append-add}
 use borrow.Author.Tests.{le-leb, leb-true, ne_eqb}
 use Rattle.fields.specs.Fields.{put_at}
-use Rattle.fields.specs.declared.Written.TheVariants.{Bytes, Refused}
-use Rattle.fields.specs.Put.{outcome, written}
+use Rattle.fields.specs.Put.{Bytes, Refused, outcome, written, written_of}
 
 module _ (m : ℕ) (bs out : List ℕ) where
   pub write_refused : (n len : ℕ) → m ≡ n → (n ≡ 0 → ⊥) → (Refused n ≡ outcome m len) × (out ≡ written m bs out)
@@ -16,6 +19,14 @@ module _ (m : ℕ) (bs out : List ℕ) where
   pub write_done : (l : List ℕ) (len : ℕ) → m ≡ 0 → l ≡ bs ++ drop (length bs) out → (Bytes len ≡ outcome m len) × (l ≡ written m bs out)
   unfolding outcome written
   write_done l len e h = (rw e, rw e h)
+
+-- a refusal that a writer passes on by `?`
+pub write_passed :
+    (r : Result ℕ Refusal) (x : Refusal) (m : ℕ) (bs out : List ℕ) (len : ℕ) → IsErrAnd r (λ (y : Refusal). y ≡ x) → refusal_number x ≡ m → (written_of r ≡ outcome m len) × (out ≡ written m bs out)
+write_passed r x m bs out len h e =
+    let p = err_from_is_err_and r h in
+    let w = write_refused m bs out (refusal_number x) len (sym e) (number_some x) in
+    (rw (p.1, p.2) w.0, w.1)
 
 pub put_fits : (out : List ℕ) (at : ℕ) (bs : List ℕ) → at + length bs ≤ length out → put_at out at bs ≡ take at out ++ bs ++ drop (at + length bs) out
 unfolding put_at

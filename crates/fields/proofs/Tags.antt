@@ -5,8 +5,7 @@ use Rattle.std.proofs.Common.{arith, sym, ◌∙◌, ap, subst, lit≤, eqb-true
 use Rattle.std.proofs.Math.Logic.{inl, inr}
 use Rattle.integers.specs.Pick.{pick}
 use Rattle.fields.specs.declared.Row.{Row}
-use Rattle.fields.specs.declared.Field.TheVariants.{Body}
-use Rattle.fields.specs.Fields.{row_of, may_stand, length_fits, field_at}
+use Rattle.fields.specs.Fields.{Body, row_of, may_stand, length_fits, field_at}
 use Rattle.fields.proofs.Laws.{field_is}
 
 abbrev nowhere : Row

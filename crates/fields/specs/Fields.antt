@@ -4,8 +4,11 @@ use Rattle.integers.specs.Pick.{pick}
 use Rattle.integers.specs.Bytes.{word}
 use Rattle.plan.specs.Counts.{count_ok}
 use Rattle.fields.specs.declared.Row.{Row}
-use Rattle.fields.specs.declared.Field.{Field}
-use Rattle.fields.specs.declared.Field.TheVariants.{Body, Wrong}
+
+-- a field: its tag, where its body starts and how long it is; or the refusal
+pub data Field : Type 0 where
+  Body : ℕ → ℕ → ℕ → Field
+  Wrong : ℕ → Field
 
 abbrev pub row : ℕ → ℕ → ℕ → ℕ → Row
 row first last next len = record { first = first; last = last; next = next; len = len }
@@ -51,6 +54,11 @@ field_at s at stage =
 abbrev pub field_number : Field → ℕ
 field_number (Body t b l) = 0
 field_number (Wrong n) = n
+
+-- why a file is refused that goes on with a field: the field's refusal, 2 where it has none
+abbrev pub refused_with : Field → ℕ
+refused_with (Body t b l) = 2
+refused_with (Wrong n) = n
 
 -- the len bytes from start, or nothing where they run past the end
 unfoldable pub part_of : List ℕ → ℕ → ℕ → List ℕ

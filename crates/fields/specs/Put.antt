@@ -1,8 +1,13 @@
 -- The outcome of a writer: the laws about it are in proofs/PutLaws.antt.
-use Rattle.std.specs.Prelude.{ℕ, List, ◌++◌, eqb, length, drop}
+use Rattle.std.specs.Prelude.{ℕ, List, ◌++◌, eqb, length, drop, Result, Ok, Err}
 use Rattle.integers.specs.Pick.{pick}
-use Rattle.fields.specs.declared.Written.{Written}
-use Rattle.fields.specs.declared.Written.TheVariants.{Bytes, Refused}
+use Rattle.plan.specs.declared.reasons.Refusal.{Refusal}
+use Rattle.plan.specs.Refusals.{refusal_number}
+
+-- what a writer answers: how many bytes it wrote, or the refusal
+pub data Written : Type 0 where
+  Bytes : ℕ → Written
+  Refused : ℕ → Written
 
 -- the refusal of a writer, 0 where it wrote; how many bytes it wrote
 abbrev pub written_number : Written → ℕ
@@ -12,6 +17,11 @@ written_number (Refused n) = n
 abbrev pub written_bytes : Written → ℕ
 written_bytes (Bytes n) = n
 written_bytes (Refused n) = 0
+
+-- what a writer's result says
+abbrev pub written_of : Result ℕ Refusal → Written
+written_of (Ok n) = Bytes n
+written_of (Err r) = Refused (refusal_number r)
 
 -- the answer of a writer with refusal m, that else writes len bytes
 unfoldable pub outcome : ℕ → ℕ → Written

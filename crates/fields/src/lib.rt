@@ -3,7 +3,11 @@
 
 ghost use Rattle.std.specs.Prelude.{◌≡◌, ◌+◌, ◌-◌, ◌*◌, ◌≤◌, ◌<◌, length, drop, take, ◌++◌};
 ghost use Rattle.integers.specs.Bytes.{word};
-ghost use Rattle.fields.specs.Fields.{row, row_of, may_stand, length_fits, count_fits, field_at, field_number, part_of, field_body, put_at, join, number8};
+ghost use Rattle.fields.specs.Fields.{row, row_of, may_stand, length_fits, count_fits, field_at, refused_with, part_of, field_body, put_at, number8};
+ghost use Rattle.fields.specs.Told.{field_of};
+ghost use Rattle.plan.specs.Refusals.{refusal_number};
+
+use plan::Refusal;
 
 // A row of the table of tags: the stages at which the tag may stand, the stage after it, the length of its body.
 #[derive(Clone, Copy)]
@@ -18,28 +22,34 @@ pub struct Row {
 #[derive(Clone, Copy)]
 pub enum Field {
     Body { tag: u8, start: usize, len: usize },
-    Wrong(u8),
+    Wrong(Refusal),
 }
 
-// What a writer answers: how many bytes it wrote, or the refusal.
-#[derive(Clone, Copy)]
-pub enum Written {
-    Bytes(usize),
-    Refused(u8),
+impl Field {
+    // Why a file is refused that goes on with this field. A field that is not refused stands where none may.
+    pub fn refusal(self) -> Refusal
+        ensures { refusal_number result ≡ refused_with (field_of self) }
+    {
+        match self {
+            Field::Body { .. } => Refusal::TagOutOfPlace,
+            Field::Wrong(refusal) => refusal,
+        }
+    }
 }
 
 fn row_with(first: u8, last: u8, next: u8, len: usize) -> Row
     ensures { result ≡ row first last next len }
 {
     Row {
-        first: first,
-        last: last,
-        next: next,
-        len: len,
+        first,
+        last,
+        next,
+        len,
     }
 }
 
 // The table of tags. A tag that has no row of its own stands nowhere.
+#[tactic(auto, unfolding(crate::specs::Fields::row_of))]
 pub fn row_of(tag: u8) -> Row
     ensures { result ≡ row_of tag }
 {
@@ -56,96 +66,76 @@ pub fn row_of(tag: u8) -> Row
     }
 }
 
+#[tactic(auto, unfolding(crate::specs::Fields::may_stand))]
 fn may_stand(stage: u8, tag: u8) -> bool
     ensures { result ≡ may_stand stage tag }
 {
     let row = row_of(tag);
-    if row.first <= stage {
-        return stage <= row.last;
-    }
-    false
+    row.first <= stage && stage <= row.last
 }
 
+#[tactic(auto, unfolding(crate::specs::Fields::length_fits))]
 fn length_fits(tag: u8, len: usize) -> bool
     ensures { result ≡ length_fits tag len }
 {
     if tag == 0x05 {
-        return len % 2 == 0;
+        len % 2 == 0
+    } else {
+        len == row_of(tag).len
     }
-    let row = row_of(tag);
-    len == row.len
 }
 
+#[tactic(auto, unfolding(crate::specs::Fields::count_fits))]
 fn count_fits(tag: u8, len: usize) -> bool
     ensures { result ≡ count_fits tag len }
 {
-    if tag == 0x05 {
-        return plan::count_ok(len / 2);
-    }
-    true
+    tag != 0x05 || plan::count_ok(len / 2)
 }
 
 // The number of two bytes, the high one first.
 pub fn word(high: u8, low: u8) -> u16
     ensures { result ≡ word high low }
 {
-    (high as u16) * 256 + (low as u16)
+    u16::from_be_bytes([high, low])
 }
 
 // The field at a position of a file, at a stage of it.
+#[tactic(auto, unfolding(crate::specs::Fields::field_at, crate::specs::Fields::checked_field))]
 pub fn read_field(s: &[u8], at: usize, stage: u8) -> Field
-    ensures { result ≡ field_at s.now at stage }
+    ensures { field_of result ≡ field_at s.now at stage }
 {
-    if s.len() < at {
-        return Field::Wrong(1);
-    }
-    let left = s.len() - at;
+    let left = s.len().saturating_sub(at);
     if left < 3 {
-        return Field::Wrong(1);
+        return Field::Wrong(Refusal::CutShort);
     }
     let tag = s[at];
     let len = word(s[at + 1], s[at + 2]) as usize;
     if !may_stand(stage, tag) {
-        return Field::Wrong(2);
+        return Field::Wrong(Refusal::TagOutOfPlace);
     }
     if !length_fits(tag, len) {
-        return Field::Wrong(3);
+        return Field::Wrong(Refusal::WrongLength);
     }
     if !count_fits(tag, len) {
-        return Field::Wrong(9);
+        return Field::Wrong(Refusal::BadCount);
     }
     if left - 3 < len {
-        return Field::Wrong(1);
+        return Field::Wrong(Refusal::CutShort);
     }
     Field::Body {
-        tag: tag,
+        tag,
         start: at + 3,
-        len: len,
-    }
-}
-
-pub fn field_number(f: Field) -> u8
-    ensures { result ≡ field_number f }
-{
-    match f {
-        Field::Body {
-            tag: _,
-            start: _,
-            len: _,
-        } => 0,
-        Field::Wrong(n) => n,
+        len,
     }
 }
 
 // The len bytes from start, as a part of the file; none where they run past its end.
+#[tactic(auto, unfolding(crate::specs::Fields::part_of))]
 pub fn part(s: &[u8], start: usize, len: usize) -> &[u8]
     ensures { result.now ≡ part_of s.now start len }
 {
-    if s.len() < start {
-        return &s[..0];
-    }
-    if s.len() - start < len {
-        return &s[..0];
+    if s.len() < start || s.len() - start < len {
+        return &[];
     }
     &s[start..start + len]
 }
@@ -153,59 +143,32 @@ pub fn part(s: &[u8], start: usize, len: usize) -> &[u8]
 // The body of a field, as a part of the file; none where the field is refused. An enum holds no reference, so the field's answer and its
 // body are handed out by two functions.
 pub fn field_body(s: &[u8], f: Field) -> &[u8]
-    ensures { result.now ≡ field_body s.now f }
+    ensures { result.now ≡ field_body s.now (field_of f) }
 {
     match f {
-        Field::Body { tag: _, start, len } => part(s, start, len),
-        Field::Wrong(_) => &s[..0],
-    }
-}
-
-fn copy(out: &mut [u8], at: usize, bytes: &[u8])
-    requires { at + length bytes.now ≤ length out.old }
-    ensures { out.new ≡ take at out.old ++ bytes.now ++ drop (at + length bytes.now) out.old }
-{
-    let mut i = 0;
-    while i < bytes.len() {
-        out[at + i] = bytes[i];
-        i += 1;
+        Field::Body { start, len, .. } => part(s, start, len),
+        Field::Wrong(_) => &[],
     }
 }
 
 // Stores the bytes from a position on; nothing where they run past the end.
+#[tactic(auto, unfolding(crate::specs::Fields::put_at))]
 pub fn put(out: &mut [u8], at: usize, bytes: &[u8])
     ensures { out.new ≡ put_at out.old at bytes.now }
 {
-    if out.len() < at {
+    if out.len() < at || out.len() - at < bytes.len() {
         return;
     }
-    if out.len() - at < bytes.len() {
-        return;
-    }
-    copy(out, at, bytes);
-}
-
-// The number a with one byte more.
-fn join(a: u64, b: u8) -> u64
-    requires { a < 72057594037927936 }
-    ensures { result ≡ join a b }
-{
-    a * 256 + (b as u64)
+    out[at..at + bytes.len()].copy_from_slice(bytes);
 }
 
 // The number of eight bytes, the highest first; 0 of any other count.
+#[tactic(auto, unfolding(crate::specs::Fields::number8))]
 pub fn number8(b: &[u8]) -> u64
     ensures { result ≡ number8 b.now }
 {
-    if b.len() != 8 {
+    let Ok(bytes) = <[u8; 8]>::try_from(b) else {
         return 0;
-    }
-    let n1 = join(0, b[0]);
-    let n2 = join(n1, b[1]);
-    let n3 = join(n2, b[2]);
-    let n4 = join(n3, b[3]);
-    let n5 = join(n4, b[4]);
-    let n6 = join(n5, b[5]);
-    let n7 = join(n6, b[6]);
-    join(n7, b[7])
+    };
+    u64::from_be_bytes(bytes)
 }

@@ -18,22 +18,18 @@ use Rattle.readings.specs.Codec.{readings_of, bytes_of}
 use Rattle.plan.specs.Counts.{count_ok}
 use Rattle.readings.specs.Trips.{All16}
 use Rattle.readings.proofs.Trips.{bytes_length, decode_encode}
-use Rattle.plan.specs.Build.{pick as choose, grid_ok, states_ok, open_number, add_edge, add_label, seal_plan, plan_number, done, no_edge, no_label, kind_number, gap_of}
+use Rattle.plan.specs.Build.{Built, Done, pick as choose, grid_ok, states_ok, open_number, add_edge, add_label, seal_plan, plan_number, done, no_edge, no_label, kind_number, gap_of}
 use Rattle.plan.specs.Calls.{edge, label, edge_at, label_at}
 use Rattle.plan.specs.declared.Edge.{Edge}
 use Rattle.plan.specs.declared.Label.{Label}
 use Rattle.plan.specs.declared.Plan.{Plan}
-use Rattle.plan.specs.declared.Built.{Built}
-use Rattle.plan.specs.declared.Answer.TheVariants.{Done}
 use Rattle.plan.proofs.Steps.{seal_done, change_none}
 use Rattle.plan.proofs.Kept.{parts}
 use Rattle.plan.proofs.Cases.{Passing, blank_passing, call_keeps}
-use Rattle.fields.specs.Fields.{row_of, may_stand, length_fits, count_fits, field_at, part_of, field}
+use Rattle.fields.specs.Fields.{Body, row_of, may_stand, length_fits, count_fits, field_at, part_of, field}
 use Rattle.fields.proofs.Laws.{field_read, field_part}
 use Rattle.fields.specs.Put.{written}
-use Rattle.fields.specs.declared.Field.TheVariants.{Body}
-use Rattle.files.specs.declared.FileRead.{FileRead}
-use Rattle.files.specs.Reader.{grid_number, level_at, open_bodies, edge_body, label_body, entry_body, finish_file, entries_from, plan_file, readings_part}
+use Rattle.files.specs.Reader.{FileRead, grid_number, level_at, open_bodies, edge_body, label_body, entry_body, finish_file, entries_from, plan_file, readings_part}
 use Rattle.files.specs.Writer.{grid_field, states_field, edge_field, label_field, edges_bytes, labels_bytes, head_bytes, plan_bytes, plan_length, write_number, after_writing}
 use Rattle.files.proofs.Sizes.{counts_small, head_length, plan_length_lem, write_room}
 use Rattle.files.specs.Cleared.{edges_made, labels_made, cleared}

@@ -16,23 +16,17 @@ use Rattle.readings.specs.Codec.{readings_of, bytes_of}
 use Rattle.plan.specs.Counts.{count_ok}
 use Rattle.readings.specs.Trips.{AllBytes}
 use Rattle.readings.proofs.Trips.{readings_length, encode_decode}
-use Rattle.plan.specs.Build.{plan_number, open_number, open_plan, add_edge, add_label, seal_plan, blank, closed, done, refused_at}
+use Rattle.plan.specs.Build.{Built, Answer, Done, Refused, plan_number, open_number, open_plan, add_edge, add_label, seal_plan, blank, closed, done, refused_at}
 use Rattle.plan.specs.Calls.{edge, label}
 use Rattle.plan.specs.declared.Plan.{Plan}
-use Rattle.plan.specs.declared.Built.{Built}
-use Rattle.plan.specs.declared.Answer.{Answer}
-use Rattle.plan.specs.declared.Answer.TheVariants.{Done, Refused}
 use Rattle.plan.proofs.Steps.{open_done, open_refused}
 use Rattle.plan.proofs.Cases.{Passing, seal_cases, seal_kept, call_keeps, blank_passing}
-use Rattle.fields.specs.Fields.{row_of, may_stand, length_fits, count_fits, field_at, field_number, part_of, word_at, field}
+use Rattle.fields.specs.Fields.{Field, Body, Wrong, row_of, may_stand, length_fits, count_fits, field_at, field_number, part_of, word_at, field}
 use Rattle.fields.specs.Laws.{FieldRead}
 use Rattle.fields.proofs.Laws.{field_is, field_bytes, part_length, part_bytes, spell}
 use Rattle.fields.proofs.Tags.{at_0, at_1, at_2, at_3}
 use Rattle.fields.specs.Put.{written}
-use Rattle.fields.specs.declared.Field.{Field}
-use Rattle.fields.specs.declared.Field.TheVariants.{Body, Wrong}
-use Rattle.files.specs.declared.FileRead.{FileRead}
-use Rattle.files.specs.Reader.{refused_file, grid_number, level_at, open_bodies, edge_body, label_body, entry_body, no_plan, on_answer, at_end, finish_file, on_field, entries_from, on_states, on_grid, plan_file, readings_part}
+use Rattle.files.specs.Reader.{FileRead, refused_file, grid_number, level_at, open_bodies, edge_body, label_body, entry_body, no_plan, on_answer, at_end, finish_file, on_field, entries_from, on_states, on_grid, plan_file, readings_part}
 use Rattle.files.specs.Writer.{grid_field, states_field, edges_bytes, labels_bytes, head_bytes, plan_bytes, plan_length, write_number, after_writing}
 use Rattle.files.proofs.Sizes.{plan_length_lem}
 use Rattle.files.proofs.Spell.{added_edge, added_label}

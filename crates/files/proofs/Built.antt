@@ -10,26 +10,19 @@ use mathlib.Core.Logic.{⊎_elim}
 use lib.Dec.{eqb, leb, ltb}
 use lib.IntN.{ℤ, pos}
 use borrow.Author.Tests.{eqb-false}
-use Rattle.plan.specs.Build.{pick, kind_at, kind_number, gap_of, fresh_edge, read_edge, has_edge, edge_of, edge_step, change_number, add_step, add_edge, label_number, add_label, open_number, open_plan, plan_number, blank, done, refused_at, with_edge, with_label, answer_number}
+use Rattle.plan.specs.Build.{Built, EdgeStep, AddEdge, RefuseEdge, Answer, Done, Refused, pick, kind_at, kind_number, gap_of, fresh_edge, read_edge, has_edge, edge_of, edge_step, change_number, add_step, add_edge, label_number, add_label, open_number, open_plan, plan_number, blank, done, refused_at, with_edge, with_label, answer_number}
 use Rattle.plan.specs.Calls.{Call, call, edge_at, label_at, edge_call, label_call, after, and_then, build_edges, build_labels}
 use Rattle.plan.specs.declared.Kind.{Kind}
 use Rattle.plan.specs.declared.Kind.TheVariants.{Stay, Any, Up, Down, Abs}
-use Rattle.plan.specs.declared.KindRead.TheVariants.{Of}
 use Rattle.plan.specs.declared.Edge.{Edge}
 use Rattle.plan.specs.declared.Label.{Label}
 use Rattle.plan.specs.declared.Plan.{Plan}
-use Rattle.plan.specs.declared.Built.{Built}
-use Rattle.plan.specs.declared.EdgeRead.{EdgeRead}
-use Rattle.plan.specs.declared.EdgeRead.TheVariants.{Is, Not}
-use Rattle.plan.specs.declared.EdgeStep.{EdgeStep}
-use Rattle.plan.specs.declared.EdgeStep.TheVariants.{AddEdge, RefuseEdge}
-use Rattle.plan.specs.declared.Answer.{Answer}
-use Rattle.plan.specs.declared.Answer.TheVariants.{Done, Refused}
 use Rattle.plan.proofs.Kept.{step_read, edge_back}
 use Rattle.plan.proofs.Cases.{AddedEdge, edge_cases, label_cases}
 use Rattle.plan.proofs.Again.{build_number}
 use Rattle.files.specs.Cleared.{edges_made, labels_made}
 use Rattle.files.proofs.Back.{no_answer, open_answer}
+use Rattle.std.specs.Prelude.{Option, Some, None}
 
 same_number : {m n : ℕ} → Refused m ≡ Refused n → m ≡ n
 same_number h = cc
@@ -51,10 +44,10 @@ step_number s es n f t k g c m h = by_limit (leb 32 n) (edge_of s f t k g c) h
     fresh true x q z = let w : 7 ≡ m = cc in omega arith
     fresh false x q z = let w : ◌≡◌ {A = ℕ} 0 1 = cc in omega arith
 
-    by_limit : (b : Bool) (r : EdgeRead) → pick b (RefuseEdge 10) (read_edge es n f t k r) ≡ RefuseEdge m → m ≡ 0 → ⊥
+    by_limit : (b : Bool) (r : Option Edge) → pick b (RefuseEdge 10) (read_edge es n f t k r) ≡ RefuseEdge m → m ≡ 0 → ⊥
     by_limit true r q z = let w : 10 ≡ m = cc in omega arith
-    by_limit false Not q z = let w : 6 ≡ m = cc in omega arith
-    by_limit false (Is x) q z = fresh (has_edge es n f t k) x q z
+    by_limit false None q z = let w : 6 ≡ m = cc in omega arith
+    by_limit false (Some x) q z = fresh (has_edge es n f t k) x q z
 
 real_edge : (p : Plan) (f t k g c : ℕ) → Real (add_edge p f t k g c).answer
 unfolding add_edge
@@ -132,7 +125,7 @@ module _ (p : Plan) where
 
 -- ---- what was built
 
-kind_self : (κ : Kind) → kind_at (kind_number κ) (gap_of κ) ≡ Of κ
+kind_self : (κ : Kind) → kind_at (kind_number κ) (gap_of κ) ≡ Some κ
 kind_self Stay = refl
 kind_self Any = refl
 kind_self (Up g) = refl
@@ -140,7 +133,7 @@ kind_self (Down g) = refl
 kind_self (Abs g) = refl
 
 same_kind : (κ κ' : Kind) → kind_number κ ≡ kind_number κ' → gap_of κ ≡ gap_of κ' → κ ≡ κ'
-same_kind κ κ' a b = let e : Of κ ≡ Of κ' = sym (kind_self κ) ∙ ap₂ kind_at a b ∙ kind_self κ' in cc
+same_kind κ κ' a b = let e : Some κ ≡ Some κ' = sym (kind_self κ) ∙ ap₂ kind_at a b ∙ kind_self κ' in cc
 
 -- an edge added from the numbers of e is e
 module _ (q : Plan) (e : Edge) where

@@ -12,10 +12,9 @@ use mir.Syntax.{w16}
 use mir.Val.{SFits}
 use Rattle.readings.specs.Codec.{readings_of}
 use Rattle.readings.specs.Trips.{All16}
-use Rattle.plan.specs.Build.{plan_number, no_edge, no_label}
+use Rattle.plan.specs.Build.{Done, plan_number, no_edge, no_label}
 use Rattle.plan.specs.Calls.{Made}
 use Rattle.plan.specs.declared.Plan.{Plan}
-use Rattle.plan.specs.declared.Answer.TheVariants.{Done}
 use Rattle.plan.proofs.Cases.{Sized, made_passing}
 use Rattle.plan.proofs.Zeros.{Zeros, made_zeros}
 use Rattle.files.specs.Cleared.{edges_made, labels_made, cleared}

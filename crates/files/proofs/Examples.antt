@@ -9,13 +9,11 @@ use lib.IntN.{pos}
 use Rattle.integers.specs.Bytes.{signed16, bits16}
 use Rattle.readings.specs.Codec.{readings_of, bytes_of}
 use Rattle.plan.specs.Counts.{count_ok, count_within}
-use Rattle.plan.specs.Build.{open_plan, add_edge, add_label, seal_plan, plan_number, change_number, open_number, edges_number, labels_number, entry_number, label_number, edge_step, edge_of, has_edge, any_below, first_below, no_edge, no_label}
+use Rattle.plan.specs.Build.{Done, open_plan, add_edge, add_label, seal_plan, plan_number, change_number, open_number, edges_number, labels_number, entry_number, label_number, edge_step, edge_of, has_edge, any_below, first_below, no_edge, no_label}
 use Rattle.plan.specs.declared.Plan.{Plan}
-use Rattle.plan.specs.declared.Answer.TheVariants.{Done}
 use Rattle.plan.specs.declared.Kind.TheVariants.{Any}
 use Rattle.fields.specs.Fields.{row_of, may_stand, length_fits, count_fits, checked_field, field_at, part_of}
-use Rattle.fields.specs.Put.{outcome, written}
-use Rattle.fields.specs.declared.Written.TheVariants.{Bytes}
+use Rattle.fields.specs.Put.{Bytes, outcome, written}
 use Rattle.files.specs.Reader.{plan_file, entries_from, finish_file, entry_body, edge_body, label_body, grid_number, open_bodies, refused_file}
 use Rattle.files.specs.Writer.{plan_bytes, head_bytes, edges_bytes, labels_bytes, plan_length, write_number, plan_written, after_writing}
 

@@ -13,19 +13,15 @@ use borrow.Author.Tests.{eqb-false}
 use Rattle.integers.specs.Pick.{pick}
 use Rattle.readings.specs.Trips.{AllBytes}
 use Rattle.plan.specs.declared.Plan.{Plan}
-use Rattle.plan.specs.declared.Answer.{Answer}
-use Rattle.plan.specs.declared.Answer.TheVariants.{Done, Refused}
-use Rattle.fields.specs.Fields.{row_of, field_at, part_of, field}
+use Rattle.fields.specs.Fields.{Field, Body, Wrong, row_of, field_at, part_of, field}
 use Rattle.fields.specs.Laws.{FieldRead}
 use Rattle.fields.proofs.Laws.{field_is, field_bytes, part_bytes}
 use Rattle.fields.proofs.Tags.{at_0, at_1, has_length}
 use Rattle.fields.proofs.Prefix.{body_short, same_field, same_closed, same_end, same_part}
-use Rattle.fields.specs.declared.Field.{Field}
-use Rattle.fields.specs.declared.Field.TheVariants.{Body, Wrong}
-use Rattle.files.specs.declared.FileRead.{FileRead}
-use Rattle.files.specs.Reader.{refused_file, grid_number, open_bodies, entry_body, on_answer, finish_file, on_field, entries_from, on_opened, on_states, on_grid, plan_file}
+use Rattle.files.specs.Reader.{FileRead, refused_file, grid_number, open_bodies, entry_body, on_answer, finish_file, on_field, entries_from, on_opened, on_states, on_grid, plan_file}
 use Rattle.files.proofs.Sizes.{counts_small, head_length}
 use Rattle.files.proofs.Back.{Entered, entered, opened_back, tags}
+use Rattle.plan.specs.Build.{Answer, Done, Refused}
 
 -- how many bytes of a file a reader needs
 abbrev pub file_bound : ℕ

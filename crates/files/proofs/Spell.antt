@@ -14,12 +14,10 @@ use borrow.Author.Tests.{eqb-true}
 use Rattle.integers.specs.Pick.{pick}
 use Rattle.integers.specs.Bytes.{word_high, word_low}
 use Rattle.readings.specs.Trips.{AllBytes}
-use Rattle.plan.specs.Build.{kind_number, gap_of, no_edge, no_label, add_edge, add_label, with_edge, with_label, refused_at}
+use Rattle.plan.specs.Build.{Built, Done, Refused, kind_number, gap_of, no_edge, no_label, add_edge, add_label, with_edge, with_label, refused_at}
 use Rattle.plan.specs.declared.Edge.{Edge}
 use Rattle.plan.specs.declared.Label.{Label}
 use Rattle.plan.specs.declared.Plan.{Plan}
-use Rattle.plan.specs.declared.Built.{Built}
-use Rattle.plan.specs.declared.Answer.TheVariants.{Done, Refused}
 use Rattle.plan.proofs.Steps.{step_room, label_room}
 use Rattle.plan.proofs.Kept.{step_read, edge_back}
 use Rattle.plan.proofs.Cases.{AddedEdge, edge_cases, AddedLabel, label_cases, Sized}

@@ -1,20 +1,22 @@
 -- Storing the fields of a plan one after another, and the numbers of its writer.
 -- Assumes nothing.
-use Prim.Native.Nat.{ℕ, ◌+◌, ◌-◌, ◌*◌, ◌/◌, ◌%◌, ◌≤◌, ◌<◌}
+use Prim.Native.Nat.{ℕ, zero, suc, ◌+◌, ◌-◌, ◌*◌, ◌/◌, ◌%◌, ◌≤◌, ◌<◌}
 use native.Mathlib.Omega.{arith}
 use native.Mathlib.Numerals.{add-one}
-use mathlib.Core.Path.{◌≡◌, sym, ◌∙◌, ap, ap₂}
+use mathlib.Core.Path.{◌≡◌, refl, sym, ◌∙◌, ap, ap₂}
 use mathlib.Core.Bool.{Bool, true, false}
 use mathlib.Core.List.{List, [], ◌∷◌, ◌++◌, append-nil, append_assoc}
 use lib.ListN.{length, get_or, take, drop, length-append, length-drop, drop_of_length-le}
-use lib.Seq.{take_all, drop-drop}
+use lib.Seq.{take_all, drop-drop, length-take-le, get_or-take}
 use lib.IntN.{ℤ}
 use borrow.Rule.Slice.PartMut.{mid_of, put_mid}
-use borrow.Author.Tests.{ne_eqb, le-leb, lt-leb}
+use borrow.Author.Tests.{eqb-true, eqb-false, le-leb, lt-leb}
+use Rattle.std.specs.Prelude.{eqb, leb}
+use Rattle.integers.specs.Pick.{pick}
 use Rattle.readings.specs.Codec.{bytes_of, encoded, encode_number}
 use Rattle.plan.specs.Counts.{count_ok}
 use Rattle.readings.proofs.Trips.{bytes_length}
-use Rattle.plan.specs.Build.{plan_number, no_edge, no_label}
+use Rattle.plan.specs.Build.{plan_number, sealed_number, no_edge, no_label}
 use Rattle.plan.specs.declared.Edge.{Edge}
 use Rattle.plan.specs.declared.Label.{Label}
 use Rattle.plan.specs.declared.Plan.{Plan}
@@ -46,28 +48,55 @@ module _ (out : List ℕ) (at : ℕ) where
       ap (λ (k : ℕ). put_at (put_at out at (labels_bytes ls i)) (at + k) (label_field (get_or ls i no_label))) (sym n) ∙
       put_more out at (labels_bytes ls i) (label_field (get_or ls i no_label)) (omega arith) ∙ ap (λ (k : ℕ). put_at out at (labels_bytes ls k)) (sym (add-one i))
 
-module _ (p : Plan) (n room w : ℕ) (ew : w ≡ plan_number p) where
-  pub plan_wrong : (w ≡ 0 → ⊥) → w ≡ write_number p n room
-  unfolding write_number
-  plan_wrong h = rw (← ew, ne_eqb w 0 h)
+-- the first entries of a list are those of its front
+edges_front : (es : List Edge) (m n : ℕ) → n ≤ m → edges_bytes (take m es) n ≡ edges_bytes es n
+unfolding edges_bytes
+edges_front es m zero h = refl
+edges_front es m (suc n) h = ap₂ (λ (a : List ℕ) (e : Edge). a ++ edge_field e) (edges_front es m n (omega arith)) (get_or-take m es n no_edge (omega arith))
 
-  module _ (h : w ≡ 0) where
-    pub unsealed : p.sealed ≡ false → 11 ≡ write_number p n room
-    unfolding write_number
-    unsealed s = rw (← ew, h, s)
+labels_front : (ls : List Label) (m n : ℕ) → n ≤ m → labels_bytes (take m ls) n ≡ labels_bytes ls n
+unfolding labels_bytes
+labels_front ls m zero h = refl
+labels_front ls m (suc n) h = ap₂ (λ (a : List ℕ) (l : Label). a ++ label_field l) (labels_front ls m n (omega arith)) (get_or-take m ls n no_label (omega arith))
 
-    module _ (s : p.sealed ≡ true) (b : Bool) (eb : b ≡ count_ok n) where
+pub counted_edges : (es : List Edge) (n : ℕ) → n ≤ length es → edges_bytes (take n es) (length (take n es)) ≡ edges_bytes es n
+counted_edges es n h = ap (edges_bytes (take n es)) (length-take-le n es h) ∙ edges_front es n n (omega arith)
+
+pub counted_labels : (ls : List Label) (n : ℕ) → n ≤ length ls → labels_bytes (take n ls) (length (take n ls)) ≡ labels_bytes ls n
+counted_labels ls n h = ap (labels_bytes (take n ls)) (length-take-le n ls h) ∙ labels_front ls n n (omega arith)
+
+module _ (p : Plan) (n room : ℕ) where
+  pub not_usable : (x : ℕ) → x ≡ sealed_number p → (x ≡ 0 → ⊥) → x ≡ write_number p n room
+  unfolding sealed_number write_number
+  not_usable x e h = go (eqb (plan_number p) 0) p.sealed e
+    where
+      go : (a b : Bool) → x ≡ pick a (pick b 0 11) (plan_number p) → x ≡ pick a (pick b (pick (count_ok n) (pick (leb (plan_length p n) room) 0 15) 9) 11) (plan_number p)
+      go false b w = w
+      go true false w = w
+      go true true w = absurd (h w)
+
+  module _ (e : 0 ≡ sealed_number p) where
+    pub usable : (plan_number p ≡ 0) × (p.sealed ≡ true)
+    unfolding sealed_number
+    usable = go (eqb (plan_number p) 0) refl p.sealed refl e
+      where
+        go : (a : Bool) → eqb (plan_number p) 0 ≡ a → (b : Bool) → p.sealed ≡ b → 0 ≡ pick a (pick b 0 11) (plan_number p) → (plan_number p ≡ 0) × (p.sealed ≡ true)
+        go false qa b qb w = absurd (eqb-false (plan_number p) 0 qa (sym w))
+        go true qa false qb w = absurd (eqb-false 11 0 refl (sym w))
+        go true qa true qb w = (eqb-true (plan_number p) 0 qa, qb)
+
+    module _ (b : Bool) (eb : b ≡ count_ok n) where
       pub wrong_count : b ≡ false → 9 ≡ write_number p n room
       unfolding write_number
-      wrong_count q = rw (← ew, h, s, ← eb, q)
+      wrong_count q = let u = usable in rw (u.0, u.1, ← eb, q)
 
       pub no_room : b ≡ true → room < plan_length p n → 15 ≡ write_number p n room
       unfolding write_number plan_length
-      no_room q l = rw (← ew, h, s, ← eb, q, lt-leb (plan_length p n) room l)
+      no_room q l = let u = usable in rw (u.0, u.1, ← eb, q, lt-leb (plan_length p n) room l)
 
       pub writes : b ≡ true → plan_length p n ≤ room → 0 ≡ write_number p n room
       unfolding write_number plan_length
-      writes q l = rw (← ew, h, s, ← eb, q, le-leb (plan_length p n) room l)
+      writes q l = let u = usable in rw (u.0, u.1, ← eb, q, le-leb (plan_length p n) room l)
 
 -- the readings go into the rest of the list, behind their tag and length
 tail_put : (xs : List ℕ) (a : ℕ) (bs : List ℕ) → a + length bs ≤ length xs → put_mid a (length xs - a) xs (bs ++ drop (length bs) (mid_of a (length xs - a) xs)) ≡ put_at xs a bs

@@ -2,15 +2,16 @@
 use Rattle.std.specs.Prelude.{ℕ, zero, suc, ◌+◌, List, length, get_or, eqb, ℤ, pos}
 use Rattle.integers.specs.Pick.{pick}
 use Rattle.integers.specs.Bytes.{signed16}
-use Rattle.plan.specs.Build.{grid_ok, open_plan, add_edge, add_label, seal_plan, blank, refused_at}
+use Rattle.plan.specs.Build.{Built, Answer, Done, Refused, grid_ok, open_plan, add_edge, add_label, seal_plan, blank, refused_at}
 use Rattle.plan.specs.declared.Plan.{Plan}
-use Rattle.plan.specs.declared.Built.{Built}
-use Rattle.plan.specs.declared.Answer.{Answer}
-use Rattle.plan.specs.declared.Answer.TheVariants.{Done, Refused}
-use Rattle.fields.specs.Fields.{row_of, field_at, field_number, part_of, word_at}
-use Rattle.fields.specs.declared.Field.{Field}
-use Rattle.fields.specs.declared.Field.TheVariants.{Body, Wrong}
-use Rattle.files.specs.declared.FileRead.{FileRead}
+use Rattle.fields.specs.Fields.{Field, Body, Wrong, row_of, field_at, field_number, part_of, word_at}
+
+-- what reading a plan file gives: the plan, and where the body of its readings starts and how long it is
+pub record FileRead : Type 0 where
+  pub answer : Answer
+  pub plan : Plan
+  pub start : ℕ
+  pub len : ℕ
 
 -- an unsealed plan with every number 0
 abbrev pub no_plan : Plan

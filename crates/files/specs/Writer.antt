@@ -8,8 +8,7 @@ use Rattle.plan.specs.declared.Edge.{Edge}
 use Rattle.plan.specs.declared.Label.{Label}
 use Rattle.plan.specs.declared.Plan.{Plan}
 use Rattle.fields.specs.Fields.{field}
-use Rattle.fields.specs.Put.{outcome, written}
-use Rattle.fields.specs.declared.Written.{Written}
+use Rattle.fields.specs.Put.{Written, outcome, written}
 
 -- the fields of a plan
 abbrev pub grid_field : ℤ → ℤ → List ℕ

@@ -27,10 +27,8 @@ fn show_byte(b: u8) {
 }
 
 fn show_bytes(s: &[u8]) {
-    let mut i = 0;
-    while i < s.len() {
-        show_byte(s[i]);
-        i += 1;
+    for b in s {
+        show_byte(*b);
     }
 }
 

@@ -23,36 +23,26 @@ pub fn floor_div(n: i64, d: i64) -> i64
     if n % d < 0 { q - 1 } else { q }
 }
 
-// The signed number of two bytes, the high one first, by arithmetic alone: a test for the sign is predicted badly on readings around zero. Turned by
-// half the range the numbers stand in the order of the signed ones, the lowest at 0; then the half is taken away.
+// The signed number of two bytes, the high one first.
 pub fn signed16(high: u8, low: u8) -> i16
     ensures { result ≡ signed16 (word high low) }
 {
-    let n = (high as u32) * 256 + (low as u32);
-    let turned = (n + 32768) % 65536;
-    ((turned as i32) - 32768) as i16
+    i16::from_be_bytes([high, low])
 }
 
-// The 16 bits of a signed number.
-fn bits16(x: i16) -> u16
-    ensures { result ≡ bits16 x }
-{
-    let wide = x as i32;
-    if wide < 0 {
-        return (wide + 65536) as u16;
-    }
-    wide as u16
-}
-
-// Their two bytes.
+// The two bytes of a signed number.
+#[tactic(auto, using(crate::proofs::Halves::high_is))]
 pub fn high16(x: i16) -> u8
     ensures { result ≡ bits16 x / 256 }
 {
-    (bits16(x) / 256) as u8
+    let [high, _] = x.to_be_bytes();
+    high
 }
 
+#[tactic(auto, using(crate::proofs::Halves::low_is))]
 pub fn low16(x: i16) -> u8
     ensures { result ≡ bits16 x % 256 }
 {
-    (bits16(x) % 256) as u8
+    let [_, low] = x.to_be_bytes();
+    low
 }

@@ -2,12 +2,9 @@
 use Rattle.answers.specs.Reader.{runs_of}
 use mathlib.Core.Path.{◌≡◌}
 use mathlib.Core.List.{◌++◌}
-use lib.ListN.{length, drop}
-use Prim.Native.Nat.{◌≤◌, ◌-◌, ◌*◌}
+use lib.ListN.{drop}
+use Prim.Native.Nat.{◌*◌}
 use Rattle.answers.proofs.fill_runs.Given as goal
 
 abbrev pub invariant-loop-i : goal.invariant-loop-i
-invariant-loop-i l = (l.i ≤ l.n) × (length l.runs ≡ length l.initial.runs) × (l.runs ≡ runs_of l.s l.i ++ drop (5 * l.i) l.initial.runs)
-
-abbrev pub decreases-loop-i : goal.decreases-loop-i
-decreases-loop-i l = l.n - l.i
+invariant-loop-i l = l.runs ≡ runs_of l.s l.i ++ drop (5 * l.i) l.initial.runs

@@ -2,12 +2,7 @@
 use Rattle.answers.specs.Writer.{runs_bytes}
 use Rattle.fields.specs.Fields.{put_at}
 use mathlib.Core.Path.{◌≡◌}
-use lib.ListN.{length}
-use Prim.Native.Nat.{◌≤◌, ◌-◌}
 use Rattle.answers.proofs.put_runs.Given as goal
 
 abbrev pub invariant-loop-i : goal.invariant-loop-i
-invariant-loop-i l = (l.i ≤ l.n) × (length l.out ≡ length l.initial.out) × (l.out ≡ put_at l.initial.out 11 (runs_bytes l.runs l.i))
-
-abbrev pub decreases-loop-i : goal.decreases-loop-i
-decreases-loop-i l = l.n - l.i
+invariant-loop-i l = l.out ≡ put_at l.initial.out 11 (runs_bytes l.runs l.i)

@@ -5,8 +5,7 @@ use lib.ListN.{length}
 use mathlib.Core.Path.{sym, ◌∙◌, ap}
 use Rattle.fields.proofs.Laws.{field_is}
 use Rattle.fields.specs.Fields.{field_number, number8}
-use Rattle.answers.specs.Reader.{runs_from, refusal_read}
-use Rattle.answers.specs.declared.AnswerRead.TheVariants.{Unread}
+use Rattle.answers.specs.Reader.{Unread, runs_from, refusal_read}
 use Rattle.answers.proofs.Walk.{head_wrong, head_cost, head_refusal}
 use Rattle.answers.proofs.read_file.Goals as goal
 

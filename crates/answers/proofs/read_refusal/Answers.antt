@@ -1,10 +1,10 @@
 -- `answers::read_refusal` meets its contract. Assumes nothing.
 use Rattle.answers.proofs.Walk.{wrong_length, no_refusal, refusal_ends, refusal_not_last}
-use Rattle.answers.specs.declared.AnswerRead.TheVariants.{Unread}
 use Rattle.fields.proofs.Tags.{nothing_after}
 use Rattle.fields.specs.Fields.{field_number}
 use mathlib.Core.Path.{◌∙◌, ap, sym}
 use Rattle.answers.proofs.read_refusal.Goals as goal
+use Rattle.answers.specs.Reader.{Unread}
 
 pub returns-then-b-ne1 : goal.returns-then-b-ne1
 returns-then-b-ne1 c = wrong_length _ _ _ c.if-b-ne1.true

@@ -1,8 +1,7 @@
 -- `answers::read_runs` meets its contract. Assumes nothing.
 use native.Mathlib.Omega.{arith}
 use Rattle.answers.proofs.Walk.{run_wrong, run_breaks, run_last, run_on}
-use Rattle.answers.specs.Reader.{body_fits, body_last}
-use Rattle.answers.specs.declared.AnswerRead.TheVariants.{Unread}
+use Rattle.answers.specs.Reader.{Unread, body_fits, body_last}
 use Rattle.fields.specs.Fields.{field_number}
 use Rattle.fields.proofs.Laws.{field_is}
 use mathlib.Core.Path.{refl, sym, ◌∙◌, ap}

@@ -2,11 +2,7 @@
 use Rattle.answers.specs.Runs.{last_before, runs_ok}
 use mathlib.Core.Path.{◌≡◌}
 use mathlib.Core.Bool.{true}
-use Prim.Native.Nat.{◌≤◌, ◌-◌}
 use Rattle.answers.proofs.runs_ok.Given as goal
 
 abbrev pub invariant-loop-i : goal.invariant-loop-i
-invariant-loop-i l = (l.i ≤ l.n) × (l.prev ≡ last_before l.runs l.i) × (runs_ok l.runs l.i ≡ true)
-
-abbrev pub decreases-loop-i : goal.decreases-loop-i
-decreases-loop-i l = l.n - l.i
+invariant-loop-i l = (l.prev ≡ last_before l.runs l.i) × (runs_ok l.runs l.i ≡ true)

@@ -1,20 +1,21 @@
 -- `files::finish_file` meets its contract. Assumes nothing.
-use Rattle.files.proofs.Walk.{seal_refused, at_end_lem, after_end}
-use Rattle.files.specs.Reader.{refused_file}
+use mathlib.Core.Path.{refl, sym, ◌∙◌, ap}
 use Rattle.fields.proofs.Tags.{nothing_after}
-use Rattle.fields.specs.Fields.{field_number}
-use Rattle.plan.specs.Build.{answer_number}
-use mathlib.Core.Path.{◌∙◌, ap, sym}
+use Rattle.fields.specs.Fields.{field_number, refused_with}
+use Rattle.fields.specs.Told.{field_of}
+use Rattle.files.specs.Reader.{refused_file}
+use Rattle.files.proofs.Walk.{file_passed, seal_refused, at_end_lem, after_end}
 use Rattle.files.proofs.finish_file.Goals as goal
 
-pub returns-in_default : goal.returns-in_default
-returns-in_default c = c.refused_file.ensures ∙ ap refused_file (c.answer_number.ensures ∙ ap answer_number c.in_default.is) ∙ seal_refused _ _ _ _ _ c.seal-built.ensures _ c.in_default.is
+pub returns-in_err-plan : goal.returns-in_err-plan
+returns-in_err-plan c = file_passed _ _ c.from_residual.ensures.1 ∙ seal_refused _ _ _ _ _ c.in_err-plan.ensures _ refl
 
 pub returns-then-at-s : goal.returns-then-at-s
-returns-then-at-s c = at_end_lem _ _ _ _ _ c.seal-built.ensures c.in-Done.is c.if-at-s.true
+returns-then-at-s c = at_end_lem _ _ _ _ _ c.in_ok-plan.ensures refl c.if-at-s.true
 
-pub returns-in_default-f : goal.returns-in_default-f
-returns-in_default-f c = c.refused_file-in_default-f.ensures ∙ ap refused_file (c.field_number.ensures ∙ ap field_number c.read_field-f.ensures) ∙ after_end _ _ _ _ _ c.seal-built.ensures c.in-Done.is c.if-at-s.false
+pub returns-in_default : goal.returns-in_default
+returns-in_default c =
+    ap refused_file (c.refusal.ensures ∙ ap (λ f. refused_with (field_of f)) c.in_default.is ∙ sym (ap (λ f. field_number (field_of f)) c.in_default.is) ∙ ap field_number c.read_field-f.ensures) ∙ after_end _ _ _ _ _ c.in_ok-plan.ensures refl c.if-at-s.false
 
 pub returns : goal.returns
-returns c = absurd (nothing_after _ _ (sym c.read_field-f.ensures ∙ c.in-Body.is))
+returns c = absurd (nothing_after _ _ (sym c.read_field-f.ensures ∙ ap field_of c.in-Body.is))

@@ -2,12 +2,9 @@
 use Rattle.readings.specs.Codec.{bytes_of}
 use mathlib.Core.Path.{◌≡◌}
 use mathlib.Core.List.{◌++◌}
-use lib.ListN.{length, drop, take}
-use Prim.Native.Nat.{◌≤◌, ◌-◌, ◌*◌}
+use lib.ListN.{drop, take}
+use Prim.Native.Nat.{◌*◌}
 use Rattle.readings.proofs.fill_bytes.Given as goal
 
 abbrev pub invariant-loop-i : goal.invariant-loop-i
-invariant-loop-i l = (l.i ≤ length l.zs) × (length l.out ≡ length l.initial.out) × (l.out ≡ bytes_of (take l.i l.zs) ++ drop (2 * l.i) l.initial.out)
-
-abbrev pub decreases-loop-i : goal.decreases-loop-i
-decreases-loop-i l = length l.zs - l.i
+invariant-loop-i l = l.out ≡ bytes_of (take l.i l.zs) ++ drop (2 * l.i) l.initial.out

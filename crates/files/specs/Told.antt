@@ -1,0 +1,18 @@
+-- What the results of the reader's calls say.
+use Rattle.std.specs.Prelude.{◌≡◌, Result, Ok, Err}
+use Rattle.plan.specs.declared.reasons.Refusal.{Refusal}
+use Rattle.plan.specs.declared.Plan.{Plan}
+use Rattle.plan.specs.Refusals.{refusal_number}
+use Rattle.plan.specs.Build.{Done, Refused, Built, done}
+use Rattle.files.specs.declared.PlanFile.{PlanFile}
+use Rattle.files.specs.Reader.{FileRead, refused_file}
+
+-- of a file
+abbrev pub file_of : Result PlanFile Refusal → FileRead
+file_of (Ok f) = record { answer = Done; plan = f.plan; start = f.start; len = f.len }
+file_of (Err r) = refused_file (refusal_number r)
+
+-- of a plan call, the plan that a refused one gives back left out
+abbrev pub Comes : Result Plan Refusal → Built → Type 0
+Comes (Ok p) b = b ≡ done p
+Comes (Err r) b = b.answer ≡ Refused (refusal_number r)
