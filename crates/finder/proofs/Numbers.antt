@@ -13,8 +13,8 @@ use Rattle.plan.specs.declared.Built.{Built}
 use Rattle.plan.specs.declared.EdgeRead.{EdgeRead}
 use Rattle.plan.specs.declared.EdgeRead.TheVariants.{Is, Not}
 use Rattle.plan.specs.declared.EdgeStep.TheVariants.{RefuseEdge}
-use Rattle.plan.specs.declared.Answer.{Answer}
-use Rattle.plan.specs.declared.Answer.TheVariants.{Done, Refused}
+use Rattle.plan.specs.Build.{Answer}
+use Rattle.plan.specs.Build.{Done, Refused}
 use Rattle.plan.specs.Build.{pick, grid_ok, states_ok, blank, refused_at, done, open_number, open_plan, edge_of, has_edge, fresh_edge, read_edge, edge_step, add_step, plan_number, change_number, add_edge, with_label, label_number, add_label, closed, seal_plan}
 use Rattle.model.specs.Checked.{is_early}
 use Rattle.model.proofs.Checked.{early_has, plan_is_early, label_is_early}
@@ -23,7 +23,7 @@ use Rattle.fields.specs.declared.Field.TheVariants.{Body, Wrong}
 use Rattle.fields.specs.Fields.{row_of, may_stand, length_fits, count_fits, checked_field, field_at, field_number, part_of}
 use Rattle.fields.proofs.Tags.{nothing_after}
 use Rattle.answers.specs.Runs.{last_refusal}
-use Rattle.files.specs.declared.FileRead.{FileRead}
+use Rattle.files.specs.Reader.{FileRead}
 use Rattle.files.specs.Reader.{refused_file, level_at, grid_number, open_bodies, edge_body, label_body, entry_body, on_answer, at_end, finish_file, on_field, entries_from, on_states, on_grid, plan_file}
 
 -- a number of the lists
