@@ -1,7 +1,7 @@
 -- Laws that several proofs cite.
 pub mod Walk
 pub mod Stored
-pub mod Cases
+pub mod Held
 pub mod Back
 pub mod Again
 pub mod Prefix

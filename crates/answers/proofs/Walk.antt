@@ -1,16 +1,26 @@
 -- Reading an answer field by field: what one more field does.
 -- Assumes nothing.
-use Prim.Native.Nat.{ℕ, zero, suc, ◌+◌, ◌<◌}
+use Prim.Native.Nat.{ℕ, zero, suc, ◌+◌, ◌*◌, ◌<◌, ◌≤◌}
 use native.Mathlib.Omega.{arith}
-use mathlib.Core.Path.{◌≡◌, refl, sym, ap}
+use mathlib.Core.Path.{◌≡◌, refl, sym, ◌∙◌, ap}
 use mathlib.Core.Bool.{Bool, true, false}
-use mathlib.Core.List.{List}
-use lib.ListN.{length, get_or}
+use mathlib.Core.List.{List, ◌++◌}
+use lib.ListN.{length, get_or, drop}
 use lib.IntN.{ℤ}
-use borrow.Author.Tests.{eq-eqb, ne_eqb}
+use borrow.Author.Tests.{eq-eqb, ne_eqb, le-leb, lt-leb}
 use Rattle.fields.specs.Fields.{Body, Wrong, field_at, field_number, part_of, number8}
+use Rattle.std.specs.Prelude.{Result, IsErrAnd}
+use Rattle.std.proofs.lemmas.Result.{err_from_is_err_and}
+use Rattle.plan.specs.declared.reasons.Refusal.{Refusal as Reason}
+use Rattle.plan.specs.Refusals.{refusal_number}
+use Rattle.answers.specs.declared.AnswerFile.{AnswerFile}
+use Rattle.answers.specs.Told.{answer_of}
 use Rattle.answers.specs.Runs.{is_refusal}
-use Rattle.answers.specs.Reader.{AnswerRead, Runs, Refusal, Unread, body_fits, body_last, runs_from, refusal_read, answer_file, in_room, on_read, read_answer, filled}
+use Rattle.answers.specs.Reader.{AnswerRead, Runs, Refusal, Unread, body_fits, body_last, runs_from, refusal_read, answer_file, in_room, on_read, read_answer, runs_of, filled}
+
+-- a refusal that the reader passes on by `?`
+pub answer_passed : (r : Result AnswerFile Reason) (x : Reason) → IsErrAnd r (λ (y : Reason). y ≡ x) → answer_of r ≡ Unread (refusal_number x)
+answer_passed r x h = let p = err_from_is_err_and r h in rw (p.1, p.2)
 
 module _ (s : List ℕ) (cost at prev count : ℕ) where
   pub run_wrong : (k n : ℕ) → 0 < k → field_at s at 6 ≡ Wrong n → runs_from k s cost at prev count ≡ Unread n
@@ -75,3 +85,15 @@ module _ (s : List ℕ) (runs : List ℤ) (x : AnswerRead) (e : answer_file s �
   pub filled_is : on_read s runs (in_room (length runs) x) ≡ filled s runs
   unfolding filled
   filled_is = ap (on_read s runs) read_is
+
+-- a cost with runs, where the list has no room for them and where it has
+module _ (s : List ℕ) (runs : List ℤ) (cost count : ℕ) (e : answer_file s ≡ Runs cost count) where
+  pub no_room : length runs < 5 * count → (Unread 15 ≡ read_answer s (length runs)) × (runs ≡ filled s runs)
+  no_room h =
+      let k : in_room (length runs) (Runs cost count) ≡ Unread 15 = rw (lt-leb (5 * count) (length runs) h) in
+      (sym k ∙ read_is s runs (Runs cost count) e, sym (ap (on_read s runs) k) ∙ filled_is s runs (Runs cost count) e)
+
+  pub runs_read : 5 * count ≤ length runs → (Runs cost count ≡ read_answer s (length runs)) × (runs_of s count ++ drop (5 * count) runs ≡ filled s runs)
+  runs_read h =
+      let k : in_room (length runs) (Runs cost count) ≡ Runs cost count = rw (le-leb (5 * count) (length runs) h) in
+      (sym k ∙ read_is s runs (Runs cost count) e, sym (ap (on_read s runs) k) ∙ filled_is s runs (Runs cost count) e)

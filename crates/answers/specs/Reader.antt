@@ -5,6 +5,12 @@ use Rattle.integers.specs.Bytes.{signed16}
 use Rattle.fields.specs.Fields.{Field, Body, Wrong, field_at, field_number, part_of, word_at, number8}
 use Rattle.answers.specs.Runs.{is_refusal, run_fits}
 
+-- what an answer file holds: a cost and how many runs, or a refusal; or why it was not read
+pub data AnswerRead : Type 0 where
+  Runs : ℕ → ℕ → AnswerRead
+  Refusal : ℕ → AnswerRead
+  Unread : ℕ → AnswerRead
+
 -- the refusal of the file itself, 0 where it was read
 abbrev pub read_number : AnswerRead → ℕ
 read_number (Runs cost count) = 0

@@ -3,7 +3,7 @@ use Rattle.std.specs.Prelude.{ℕ, zero, suc, ◌+◌, ◌*◌, List, Bool, true
 use Rattle.std.specs.Int.Signed.{le_z, lt_z}
 use Rattle.integers.specs.Pick.{pick}
 
--- the last number of the paper's two lists; it rises with each refusal that joins them, and LAST_REFUSAL in code with it
+-- the number of the last refusal; it rises with each that joins them, and LAST_REFUSAL in code with it
 abbrev pub last_refusal : ℕ
 last_refusal = 20
 

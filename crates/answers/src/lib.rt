@@ -5,21 +5,23 @@ ghost use Rattle.std.specs.Prelude.{◌≡◌, true, ◌+◌, ◌-◌, ◌*◌, 
 ghost use Rattle.std.proofs.lemmas.List.Edits.{sets};
 ghost use Rattle.fields.specs.Fields.{put_at, field, bytes8};
 ghost use Rattle.answers.specs.Runs.{is_refusal, run_fits, whole, level_fits, last_before, run_ok, runs_ok};
-ghost use Rattle.answers.specs.Reader.{body_fits, body_last, runs_from, refusal_read, answer_file, in_room, on_read, read_answer, run_numbers, runs_of, filled};
+ghost use Rattle.answers.specs.Reader.{body_fits, body_last, runs_from, refusal_read, answer_file, read_answer, run_numbers, runs_of, filled};
+ghost use Rattle.answers.specs.Told.{answer_of};
+ghost use Rattle.fields.specs.Put.{written_of};
+ghost use Rattle.plan.specs.Refusals.{number_of};
 ghost use Rattle.answers.specs.Writer.{run_field, runs_bytes, answer_bytes, refusal_bytes, answer_length, answer_number, refusal_number, answer_written, after_answer, refusal_written, after_refusal};
 
-use fields::{Field, Written};
-use plan::Plan;
+use fields::Field;
+use plan::{Plan, Refusal};
 
-// What an answer file holds: a cost and how many runs, or a refusal; or why it was not read.
+// What an answer file holds: a cost and how many runs, or a refusal.
 #[derive(Clone, Copy)]
-pub enum AnswerRead {
+pub enum AnswerFile {
     Runs { cost: u64, count: usize },
-    Refusal(u8),
-    Unread(u8),
+    Refusal(Refusal),
 }
 
-// The last number of the paper's two lists. It rises with each refusal that joins them, and last_refusal in specs with it.
+// The number of the last refusal. It rises with each that joins them, and last_refusal in specs with it.
 pub const LAST_REFUSAL: u8 = 20;
 
 // The refusal numbers that an answer file may hold.
@@ -51,92 +53,95 @@ fn run_fits(prev: u32, first: u32, last: u32, state: u32, edge: u32) -> bool
 fn body_fits(prev: u32, b: &[u8]) -> bool
     ensures { result ≡ body_fits prev b.now }
 {
-    if b.len() != 8 {
+    let [
+        first_high,
+        first_low,
+        last_high,
+        last_low,
+        state,
+        _,
+        _,
+        edge,
+    ] = b
+    else {
         return false;
-    }
-    let first = fields::word(b[0], b[1]);
-    let last = fields::word(b[2], b[3]);
-    let state = b[4];
-    let edge = b[7];
-    run_fits(prev, first as u32, last as u32, state as u32, edge as u32)
+    };
+    let first = fields::word(*first_high, *first_low);
+    let last = fields::word(*last_high, *last_low);
+    run_fits(
+        prev,
+        u32::from(first),
+        u32::from(last),
+        u32::from(*state),
+        u32::from(*edge),
+    )
 }
 
 #[tactic(auto, unfolding(crate::specs::Reader::body_last))]
 fn body_last(b: &[u8]) -> u32
     ensures { result ≡ body_last b.now }
 {
-    if b.len() != 8 {
+    let [_, _, high, low, _, _, _, _] = b else {
         return 0;
-    }
-    let last = fields::word(b[2], b[3]);
-    last as u32
+    };
+    u32::from(fields::word(*high, *low))
 }
 
-fn read_runs(s: &[u8], cost: u64, at: usize) -> AnswerRead
+fn read_runs(s: &[u8], cost: u64, at: usize) -> Result<AnswerFile, Refusal>
     requires { at ≤ length s.now }
-    ensures { result ≡ runs_from (length s.now + 1) s.now cost at 0 0 }
+    ensures { answer_of result ≡ runs_from (length s.now + 1) s.now cost at 0 0 }
 {
     let mut i = at;
     let mut prev: u32 = 0;
     let mut count: usize = 0;
     loop {
         let f = fields::read_field(s, i, 6);
-        let Field::Body { tag: _, start, len } = f else {
-            return AnswerRead::Unread(fields::field_number(f));
+        let Field::Body { start, len, .. } = f else {
+            return Err(f.refusal());
         };
         let b = fields::field_body(s, f);
         if !body_fits(prev, b) {
-            return AnswerRead::Unread(17);
+            return Err(Refusal::BadAnswer);
         }
         i = start + len;
         count += 1;
         if i == s.len() {
-            return AnswerRead::Runs {
-                cost: cost,
-                count: count,
-            };
+            return Ok(AnswerFile::Runs { cost, count });
         }
         prev = body_last(b);
     }
 }
 
-fn read_refusal(s: &[u8], at: usize, b: &[u8]) -> AnswerRead
-    ensures { result ≡ refusal_read s.now at b.now }
+fn read_refusal(s: &[u8], at: usize, b: &[u8]) -> Result<AnswerFile, Refusal>
+    ensures { answer_of result ≡ refusal_read s.now at b.now }
 {
-    if b.len() != 1 {
-        return AnswerRead::Unread(3);
-    }
-    let n = b[0];
-    if !is_refusal(n) {
-        return AnswerRead::Unread(17);
-    }
+    let [number] = b else {
+        return Err(Refusal::WrongLength);
+    };
+    let Ok(held) = Refusal::try_from(*number) else {
+        return Err(Refusal::BadAnswer);
+    };
     if at == s.len() {
-        return AnswerRead::Refusal(n);
+        return Ok(AnswerFile::Refusal(held));
     }
     let f = fields::read_field(s, at, 4);
-    let Field::Body {
-        tag: _,
-        start: _,
-        len: _,
-    } = f
-    else {
-        return AnswerRead::Unread(fields::field_number(f));
+    let Field::Body { .. } = f else {
+        return Err(f.refusal());
     };
-    AnswerRead::Unread(2)
+    Err(Refusal::TagOutOfPlace)
 }
 
 // The fields of an answer file to its end.
-fn read_file(s: &[u8]) -> AnswerRead
-    ensures { result ≡ answer_file s.now }
+fn read_file(s: &[u8]) -> Result<AnswerFile, Refusal>
+    ensures { answer_of result ≡ answer_file s.now }
 {
     let f = fields::read_field(s, 0, 5);
     let Field::Body { tag, start, len } = f else {
-        return AnswerRead::Unread(fields::field_number(f));
+        return Err(f.refusal());
     };
     let b = fields::field_body(s, f);
     if tag == 0x81 {
-        let cost = fields::number8(b);
-        return read_runs(s, cost, start + len);
+        return read_runs(s, fields::number8(b), start + len);
     }
     read_refusal(s, start + len, b)
 }
@@ -161,33 +166,19 @@ fn fill_runs(s: &[u8], n: usize, runs: &mut [i32])
     }
 }
 
-// The runs of a file that was read, where the list has room for them.
-fn take_runs(s: &[u8], cost: u64, count: usize, runs: &mut [i32]) -> AnswerRead
-    requires { length s.now ≡ 11 + 11 * count }
-    ensures answer { result ≡ in_room (length runs.old) (AnswerRead.Runs cost count) }
-    ensures list { runs.new ≡ on_read s.now runs.old (in_room (length runs.old) (AnswerRead.Runs cost count)) }
-{
-    if runs.len() / 5 < count {
-        return AnswerRead::Unread(15);
-    }
-    fill_runs(s, count, runs);
-    AnswerRead::Runs {
-        cost: cost,
-        count: count,
-    }
-}
-
 // Reads an answer file; the numbers of its runs, five a run, go to the front of runs.
-pub fn read_answer(s: &[u8], runs: &mut [i32]) -> AnswerRead
-    ensures answer { result ≡ read_answer s.now (length runs.old) }
+pub fn read_answer(s: &[u8], runs: &mut [i32]) -> Result<AnswerFile, Refusal>
+    ensures answer { answer_of result ≡ read_answer s.now (length runs.old) }
     ensures list { runs.new ≡ filled s.now runs.old }
 {
-    let found = read_file(s);
-    match found {
-        AnswerRead::Runs { cost, count } => take_runs(s, cost, count, runs),
-        AnswerRead::Refusal(n) => AnswerRead::Refusal(n),
-        AnswerRead::Unread(n) => AnswerRead::Unread(n),
+    let file = read_file(s)?;
+    if let AnswerFile::Runs { count, .. } = file {
+        if runs.len() / 5 < count {
+            return Err(Refusal::ListTooShort);
+        }
+        fill_runs(s, count, runs);
     }
+    Ok(file)
 }
 
 // A run number as a natural one; below zero it is none that fits.
@@ -235,18 +226,18 @@ fn runs_ok(runs: &[i32], n: usize) -> bool
 
 // Refusals 17, 15.
 #[tactic(auto, unfolding(crate::specs::Writer::answer_number))]
-fn answer_number(runs: &[i32], room: usize) -> u8
-    ensures { result ≡ answer_number runs.now room }
+fn check_answer(runs: &[i32], room: usize) -> Result<(), Refusal>
+    ensures { number_of result ≡ answer_number runs.now room }
 {
     let numbers = runs.len();
     let n = numbers / 5;
     if numbers == 0 || numbers % 5 != 0 || !runs_ok(runs, n) {
-        return 17;
+        return Err(Refusal::BadAnswer);
     }
     if room < 11 + 11 * n {
-        return 15;
+        return Err(Refusal::ListTooShort);
     }
-    0
+    Ok(())
 }
 
 #[tactic(auto, unfolding(fields::specs::Fields::bytes8))]
@@ -261,23 +252,23 @@ fn put_run_field(out: &mut [u8], at: usize, runs: &[i32], i: usize)
     requires { (5 * i + 5 ≤ length runs.now) × (run_ok runs.now i ≡ true) }
     ensures { out.new ≡ put_at out.old at (run_field runs.now i) }
 {
-    let first = whole(runs[5 * i]);
-    let last = whole(runs[5 * i + 1]);
-    let state = whole(runs[5 * i + 2]);
+    let [first_high, first_low] = (whole(runs[5 * i]) as u16).to_be_bytes();
+    let [last_high, last_low] = (whole(runs[5 * i + 1]) as u16).to_be_bytes();
+    let state = whole(runs[5 * i + 2]) as u8;
     let level = runs[5 * i + 3] as i16;
-    let edge = whole(runs[5 * i + 4]);
+    let edge = whole(runs[5 * i + 4]) as u8;
     let b = [
         0x82,
         0,
         8,
-        (first / 256) as u8,
-        (first % 256) as u8,
-        (last / 256) as u8,
-        (last % 256) as u8,
-        state as u8,
+        first_high,
+        first_low,
+        last_high,
+        last_low,
+        state,
         integers::high16(level),
         integers::low16(level),
-        edge as u8,
+        edge,
     ];
     fields::put(out, at, &b);
 }
@@ -292,32 +283,29 @@ fn put_runs(out: &mut [u8], runs: &[i32], n: usize)
 }
 
 // Writes the answer file of a cost with its runs, five numbers a run, to the front of out.
-pub fn write_answer(cost: u64, runs: &[i32], out: &mut [u8]) -> Written
-    ensures answer { result ≡ answer_written runs.now (length out.old) }
+pub fn write_answer(cost: u64, runs: &[i32], out: &mut [u8]) -> Result<usize, Refusal>
+    ensures answer { written_of result ≡ answer_written runs.now (length out.old) }
     ensures list { out.new ≡ after_answer cost runs.now out.old }
 {
-    let wrong = answer_number(runs, out.len());
-    if wrong != 0 {
-        return Written::Refused(wrong);
-    }
+    check_answer(runs, out.len())?;
     let n = runs.len() / 5;
     put_cost(out, cost);
     put_runs(out, runs, n);
-    Written::Bytes(11 + 11 * n)
+    Ok(11 + 11 * n)
 }
 
 // Writes the answer file of a refusal to the front of out.
 #[tactic(auto, using(fields::proofs::PutLaws::put_front), unfolding(crate::specs::Writer::refusal_number, fields::specs::Put::outcome, fields::specs::Put::written))]
-pub fn write_refusal(number: u8, out: &mut [u8]) -> Written
-    ensures answer { result ≡ refusal_written number (length out.old) }
+pub fn write_refusal(number: u8, out: &mut [u8]) -> Result<usize, Refusal>
+    ensures answer { written_of result ≡ refusal_written number (length out.old) }
     ensures list { out.new ≡ after_refusal number out.old }
 {
     if !is_refusal(number) {
-        return Written::Refused(17);
+        return Err(Refusal::BadAnswer);
     }
     if out.len() < 4 {
-        return Written::Refused(15);
+        return Err(Refusal::ListTooShort);
     }
     fields::put(out, 0, &[0x83, 0, 1, number]);
-    Written::Bytes(4)
+    Ok(4)
 }

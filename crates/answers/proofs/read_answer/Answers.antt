@@ -1,17 +1,33 @@
 -- `answers::read_answer` meets its contract. Assumes nothing.
-use mathlib.Core.Path.{sym, ◌∙◌}
+use native.Mathlib.Omega.{arith}
+use mathlib.Core.Path.{◌≡◌, sym, ◌∙◌, ap}
+use Rattle.std.specs.Prelude.{Ok}
+use Rattle.answers.specs.Reader.{Runs, answer_file}
 use Rattle.answers.specs.Sizes.{file_long}
-use Rattle.answers.proofs.Walk.{read_is, filled_is}
+use Rattle.answers.specs.Told.{answer_of}
+use Rattle.answers.proofs.Walk.{answer_passed, read_is, filled_is, no_room, runs_read}
 use Rattle.answers.proofs.read_answer.Goals as goal
 
-pub take_runs-requires : goal.take_runs-requires
-take_runs-requires c = file_long _ _ _ (sym c.read_file-found.ensures ∙ c.in-Runs.is)
+pub returns-in_err-file : goal.returns-in_err-file
+returns-in_err-file c =
+    let e = sym c.in_err-file.ensures in record { answer = answer_passed _ _ c.from_residual.ensures.1 ∙ read_is _ c.args.runs.now _ e; list = filled_is _ c.args.runs.now _ e }
 
-pub returns-in-Runs : goal.returns-in-Runs
-returns-in-Runs c = record { answer = c.take_runs.ensures.answer ∙ read_is _ c.args.runs.now _ (sym c.read_file-found.ensures ∙ c.in-Runs.is); list = c.take_runs.ensures.list ∙ filled_is _ c.args.runs.now _ (sym c.read_file-found.ensures ∙ c.in-Runs.is) }
+pub returns-then-runs-count : goal.returns-then-runs-count
+returns-then-runs-count c =
+    let e : answer_file c.args.s.now ≡ Runs c.in-Runs.cost c.in-Runs.count = sym c.in_ok-file.ensures ∙ ap (λ f. answer_of (Ok f)) c.in-Runs.is in
+    let n = no_room _ c.args.runs.now _ _ e (omega arith) in record { answer = n.0; list = n.1 }
 
-pub returns-in-Refusal : goal.returns-in-Refusal
-returns-in-Refusal c = record { answer = read_is _ c.args.runs.now _ (sym c.read_file-found.ensures ∙ c.in-Refusal.is); list = filled_is _ c.args.runs.now _ (sym c.read_file-found.ensures ∙ c.in-Refusal.is) }
+pub fill_runs-requires : goal.fill_runs-requires
+fill_runs-requires c =
+    let e : answer_file c.args.s.now ≡ Runs c.in-Runs.cost c.in-Runs.count = sym c.in_ok-file.ensures ∙ ap (λ f. answer_of (Ok f)) c.in-Runs.is in
+    let l = file_long _ _ _ e in (omega arith, omega arith)
 
-pub returns-in-Unread : goal.returns-in-Unread
-returns-in-Unread c = record { answer = read_is _ c.args.runs.now _ (sym c.read_file-found.ensures ∙ c.in-Unread.is); list = filled_is _ c.args.runs.now _ (sym c.read_file-found.ensures ∙ c.in-Unread.is) }
+pub returns-else-runs-count : goal.returns-else-runs-count
+returns-else-runs-count c =
+    let e : answer_file c.args.s.now ≡ Runs c.in-Runs.cost c.in-Runs.count = sym c.in_ok-file.ensures ∙ ap (λ f. answer_of (Ok f)) c.in-Runs.is in
+    let r = runs_read _ c.args.runs.now _ _ e (omega arith) in record { answer = r.0; list = c.fill_runs.ensures ∙ r.1 }
+
+pub returns-in_default : goal.returns-in_default
+returns-in_default c =
+    let k = ap (λ f. answer_of (Ok f)) c.in_default.is in
+    let e = sym c.in_ok-file.ensures ∙ k in record { answer = k ∙ read_is _ c.args.runs.now _ e; list = filled_is _ c.args.runs.now _ e }
