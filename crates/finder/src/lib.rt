@@ -151,9 +151,7 @@ pub fn yeldaski_table(
     ensures words { workspace.new ≡ table_file_words file.now most (table_file file.now readings.now most (length workspace.old) (length costs.old)) workspace.old }
 {
     match files::read_plan(file) {
-        Ok(read) => counted(neighbourhood::by_changes(
-            read.plan, readings, most, workspace, costs,
-        )),
+        Ok(read) => counted(neighbourhood::by_changes(read.plan, readings, most, workspace, costs)),
         Err(refusal) => refused(refusal),
     }
 }
@@ -203,8 +201,8 @@ pub fn yeldaski_read_answer(file: &[u8], runs: &mut [i32]) -> Reply
             cost: 0,
             count: 0,
         },
-        Err(refusal) => Reply {
-            refusal: refusal.number(),
+        Err(unread) => Reply {
+            refusal: unread.number(),
             held: 0,
             cost: 0,
             count: 0,
