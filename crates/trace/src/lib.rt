@@ -105,14 +105,8 @@ pub fn step(
     if joins_run(e) {
         return before;
     }
-    let r = run_of(
-        t + 1,
-        from.last,
-        from.state,
-        plan.lo,
-        from.level,
-        found.edge,
-    );
+    let edge = found.edge;
+    let r = run_of(t + 1, from.last, from.state, plan.lo, from.level, edge);
     runs::put_run(out, from.runs, r);
     Point {
         last: t,
