@@ -35,6 +35,14 @@ pub struct Rank {
     pub changes: u64,
 }
 
+impl Rank {
+    // What is not there.
+    pub const NONE: Rank = Rank {
+        value: NONE,
+        changes: 0,
+    };
+}
+
 // The two parts of a cost, which is rise less fall.
 fn rise(a: u64, c: u64, v: u64) -> u64
     requires { (a ≤ count_limit) × ((c < 2305843009213693952) × (v < 262144)) }
@@ -50,12 +58,15 @@ fn fall(z: u64, v: u64) -> u64
     2 * (z * v)
 }
 
-// The cost at v.
-pub fn eval(q: Packed, v: u64) -> u64
+// The cost at v, with q's changes.
+pub fn eval(q: Packed, v: u64) -> Rank
     requires { Small (quad q) × ((v < 262144) × (down (quad q) v ≤ up (quad q) v)) }
-    ensures { (result ≡ cost (quad q) v) × (result ≤ 2377900603251621888) }
+    ensures { ((result.value ≡ cost (quad q) v) × (result.changes ≡ (quad q).k)) × (result.value ≤ 2377900603251621888) }
 {
-    rise(q.w % CHANGE, q.c, v) - fall(q.z, v)
+    Rank {
+        value: rise(q.w % CHANGE, q.c, v) - fall(q.z, v),
+        changes: q.w / CHANGE,
+    }
 }
 
 // Whether w is at most l at v.
@@ -70,7 +81,7 @@ pub fn under(w: Packed, l: Packed, v: u64) -> bool
 pub fn more_changes(i: u64, j: u64) -> u64
     ensures { result ≡ late i j }
 {
-    if j < i { 1 } else { 0 }
+    u64::from(j < i)
 }
 
 // a comes before b: it is cheaper, or as cheap with fewer changes. One sum and one comparison are quicker than two comparisons.
