@@ -110,7 +110,7 @@ mirror_of s L F j = mirrored s (F (L - 1 - j))
 
 -- the least at every level but the one that has it, where it is the other of two
 abbrev pub constant_but : Two → ℕ → Quad
-constant_but two j = pick (eqb j two.level) (flat two.second two.secondchanges) (flat two.value two.changes)
+constant_but two j = pick (eqb j two.least.level) (flat two.second.value two.second.changes) (flat two.least.rank.value two.least.rank.changes)
 
 -- it may be mirrored
 pub record Turnable (s : ℕ) (q : Quad) : Type 0 where

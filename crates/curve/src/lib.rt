@@ -18,6 +18,7 @@ ghost use Rattle.curve.specs.Lows.{rank_of, LeastIn, TwoLeast, TwoLowered, LessA
 ghost use Rattle.curve.specs.Pieces.{Yields, none_only, quad_at, Kept, Built, Is, Formed, piece, Stored, Appended, Emits, Made, Apart, Held, Lent, Copyable, Copied, shift_of, mirror_of, constant_but, Turnable};
 
 use quadratic::Packed;
+pub use quadratic::Rank;
 
 // The piece at a place, without its end.
 fn load(ws: &[u64], at: usize) -> Packed
@@ -42,21 +43,6 @@ fn store(ws: &mut [u64], at: usize, end: u64, q: Packed)
     ws[at + 3] = q.c;
 }
 
-// Whether two quadratics are the same. Where they differ c nearly always does: with c first the other tests are hardly reached, and
-// the processor predicts the one that is.
-fn same(p: Packed, q: Packed) -> bool
-    ensures { result ≡ true → quad p ≡ quad q }
-{
-    if p.c == q.c {
-        if p.w == q.w {
-            if p.z == q.z {
-                return true;
-            }
-        }
-    }
-    false
-}
-
 // One piece more after the n at dst, or the last one longer.
 fn append(ws: &mut [u64], dst: usize, n: usize, end: u64, q: Packed) -> usize
     requires { dst + 4 * (n + 1) ≤ length ws.old }
@@ -64,8 +50,8 @@ fn append(ws: &mut [u64], dst: usize, n: usize, end: u64, q: Packed) -> usize
 {
     if 0 < n {
         let back = dst + 4 * (n - 1);
-        let p = load(ws, back);
-        if same(p, q) {
+        let last = load(ws, back);
+        if last == q {
             ws[back] = end;
             return n;
         }
@@ -116,29 +102,17 @@ fn next_stretch(p: Packed, q: Packed, a: u64, y: u64, base: u64) -> Stretch
         return Stretch { winner: q, end: y };
     }
     let more = quadratic::more_changes(p.w / quadratic::CHANGE, q.w / quadratic::CHANGE);
-    let p1 = Packed {
-        w: p.w,
-        z: p.z,
-        c: p.c + more,
-    };
+    let p1 = Packed { c: p.c + more, ..p };
     if quadratic::under(p1, q, base + a) {
         let s = reach(p1, q, a, y, base);
         return Stretch { winner: p, end: s };
     }
     let q1 = Packed {
-        w: q.w,
-        z: q.z,
         c: q.c + 1 - more,
+        ..q
     };
     let t = reach(q1, p, a, y, base);
     Stretch { winner: q, end: t }
-}
-
-// The less of two numbers.
-fn lesser(e: u64, h: u64) -> u64
-    ensures { ((result ≤ e) × (result ≤ h)) × ((result ≡ e) ⊎ (result ≡ h)) }
-{
-    if e < h { e } else { h }
 }
 
 // The piece after the ith, where that ends at y.
@@ -180,7 +154,7 @@ pub fn least_of_two(
         let p = load(ws, at);
         let l = load(ws, to);
         let q = quadratic::raise(l, pen, ch);
-        let y = lesser(e, h);
+        let y = e.min(h);
         let r = next_stretch(p, q, x, y, base);
         n = append(ws, dst, n, r.end, r.winner);
         i = next(i, e, r.end);
@@ -209,16 +183,16 @@ pub fn add_loss(ws: &mut [u64], f: usize, u: u64, w: u64, dst: usize, levels: u6
     }
 }
 
-// c with k changes at the levels from x up to y, y not among them.
-fn constant_to(ws: &mut [u64], dst: usize, n: usize, x: u64, y: u64, c: u64, k: u64) -> usize
-    requires { ((n ≤ x) × (x ≤ y)) × ((dst + 4 * y ≤ length ws.old) × (k ≤ count_limit)) }
-    ensures { Emits (λ (j : ℕ). flat c k) ws.old ws.new dst n x y result }
+// One rank at the levels from x up to y, y not among them.
+fn constant_to(ws: &mut [u64], dst: usize, n: usize, x: u64, y: u64, rank: Rank) -> usize
+    requires { ((n ≤ x) × (x ≤ y)) × ((dst + 4 * y ≤ length ws.old) × (rank.changes ≤ count_limit)) }
+    ensures { Emits (λ (j : ℕ). flat rank.value rank.changes) ws.old ws.new dst n x y result }
 {
     if x < y {
         let q = Packed {
-            w: quadratic::CHANGE * k,
+            w: quadratic::CHANGE * rank.changes,
             z: 0,
-            c,
+            c: rank.value,
         };
         append(ws, dst, n, y - 1, q)
     } else {
@@ -234,10 +208,10 @@ pub fn shift(ws: &mut [u64], f: usize, gap: u64, dst: usize, levels: u64)
     ensures { Made (shift_of gap (piece ws.old f levels)) ws.old ws.new dst levels }
 {
     if levels <= gap {
-        constant_to(ws, dst, 0, 0, levels, quadratic::NONE, 0);
+        constant_to(ws, dst, 0, 0, levels, Rank::NONE);
         return;
     }
-    let mut n = constant_to(ws, dst, 0, 0, gap, quadratic::NONE, 0);
+    let mut n = constant_to(ws, dst, 0, 0, gap, Rank::NONE);
     let mut i: usize = 0;
     let mut x: u64 = 0;
     while x + gap < levels {
@@ -245,7 +219,7 @@ pub fn shift(ws: &mut [u64], f: usize, gap: u64, dst: usize, levels: u64)
         let e = ws[at];
         let p = load(ws, at);
         let q = quadratic::shift(p, gap);
-        let y = lesser(e, levels - 1 - gap);
+        let y = e.min(levels - 1 - gap);
         n = append(ws, dst, n, y + gap, q);
         i = next(i, e, y);
         x = y + 1;
@@ -289,27 +263,29 @@ pub fn mirror(ws: &mut [u64], f: usize, dst: usize, levels: u64, base: u64)
     }
 }
 
-// A cost and a number of changes. The one that comes first is the less of two.
-#[derive(Clone, Copy)]
-pub struct Rank {
-    pub value: u64,
-    pub changes: u64,
-}
-
 // A cost with its changes, and a level that has it.
-#[derive(Clone, Copy)]
+#[derive(Clone, Copy, PartialEq, Eq)]
 pub struct Low {
-    pub value: u64,
-    pub changes: u64,
+    pub rank: Rank,
     pub level: u64,
 }
 
-// How many pieces there are, and the least so far: its cost and its changes.
+impl Low {
+    // Where there is no level: more than none.
+    pub const NOWHERE: Low = Low {
+        rank: Rank {
+            value: quadratic::NONE + 1,
+            changes: 0,
+        },
+        level: 0,
+    };
+}
+
+// How many pieces there are, and the least so far.
 #[derive(Clone, Copy)]
 struct Run {
-    pub n: usize,
-    pub best: u64,
-    pub changes: u64,
+    n: usize,
+    best: Rank,
 }
 
 // The first level of [a, v] at which p costs less than best. It is so at v, and p falls up to there. Many pieces have one level: nothing is looked for there.
@@ -338,33 +314,26 @@ fn first_below(p: Packed, best: u64, a: u64, v: u64, base: u64) -> u64
 // has fewer changes.
 fn running_min_on(ws: &mut [u64], dst: usize, run: Run, p: Packed, a: u64, e: u64, base: u64) -> Run
     requires small { Small (quad p) × ((v : ℕ) → base + a ≤ v → v ≤ base + e → down (quad p) v ≤ up (quad p) v) }
-    requires n_le_a { ((run.n ≤ a) × (a ≤ e)) × ((base + e < 262144) × ((run.best ≤ 1152921504606846977) × (run.changes ≤ count_limit))) }
+    requires n_le_a { ((run.n ≤ a) × (a ≤ e)) × ((base + e < 262144) × ((run.best.value ≤ 1152921504606846977) × (run.best.changes ≤ count_limit))) }
     requires e_in_bounds { dst + 4 * (e + 1) ≤ length ws.old }
     ensures { Prefixed ws.old ws.new dst base a e (quad p) run result }
 {
     let n = run.n;
     let best = run.best;
-    let changes = run.changes;
-    let k = p.w / quadratic::CHANGE;
     let v = quadratic::lowest_min(p, base + a, base + e) - base;
-    let w = quadratic::eval(p, base + v);
-    let limit = best + quadratic::more_changes(changes, k);
-    if limit <= w {
-        let all = constant_to(ws, dst, n, a, e + 1, best, changes);
-        return Run {
-            n: all,
-            best,
-            changes,
-        };
+    let least = quadratic::eval(p, base + v);
+    let limit = best.value + quadratic::more_changes(best.changes, least.changes);
+    if limit <= least.value {
+        let all = constant_to(ws, dst, n, a, e + 1, best);
+        return Run { n: all, best };
     }
     let s = first_below(p, limit, a, v, base);
-    let before = constant_to(ws, dst, n, a, s, best, changes);
+    let before = constant_to(ws, dst, n, a, s, best);
     let fallen = append(ws, dst, before, v, p);
-    let after = constant_to(ws, dst, fallen, v + 1, e + 1, w, k);
+    let after = constant_to(ws, dst, fallen, v + 1, e + 1, least);
     Run {
         n: after,
-        best: w,
-        changes: k,
+        best: least,
     }
 }
 
@@ -377,8 +346,7 @@ pub fn running_min(ws: &mut [u64], f: usize, dst: usize, levels: u64, base: u64)
 {
     let mut run = Run {
         n: 0,
-        best: quadratic::NONE + 1,
-        changes: 0,
+        best: Low::NOWHERE.rank,
     };
     let mut i: usize = 0;
     let mut x: u64 = 0;
@@ -392,29 +360,20 @@ pub fn running_min(ws: &mut [u64], f: usize, dst: usize, levels: u64, base: u64)
     }
 }
 
-// The greater of two numbers.
-fn greater(e: u64, h: u64) -> u64
-    ensures { ((e ≤ result) × (h ≤ result)) × ((result ≡ e) ⊎ (result ≡ h)) }
-{
-    if e < h { h } else { e }
-}
-
 // The less of best and of the least of p on [a, b], which may be empty; best where they are equal.
 fn lower(best: Low, p: Packed, a: u64, b: u64, base: u64) -> Low
     requires small { Small (quad p) × ((v : ℕ) → base + a ≤ v → v ≤ base + b → down (quad p) v ≤ up (quad p) v) }
-    requires b_bound { (base + b < 262144) × (best.changes ≤ count_limit) }
+    requires b_bound { (base + b < 262144) × (best.rank.changes ≤ count_limit) }
     ensures { Lowered best (quad p) a b base result }
 {
     if b < a {
         return best;
     }
     let v = quadratic::lowest_min(p, base + a, base + b);
-    let w = quadratic::eval(p, v);
-    let changes = p.w / quadratic::CHANGE;
-    if quadratic::comes_first(w, changes, best.value, best.changes) {
+    let rank = quadratic::eval(p, v);
+    if quadratic::comes_first(rank, best.rank) {
         Low {
-            value: w,
-            changes,
+            rank,
             level: v - base,
         }
     } else {
@@ -429,19 +388,15 @@ pub fn least_in(ws: &[u64], f: usize, from: u64, to: u64, levels: u64, base: u64
     requires by_index { (j : ℕ) → j < levels → Fine count_limit cost_limit (piece ws.now f levels j) (base + j) }
     ensures { LeastIn (costs base (piece ws.now f levels)) from to result }
 {
-    let mut best = Low {
-        value: quadratic::NONE + 1,
-        changes: 0,
-        level: 0,
-    };
+    let mut best = Low::NOWHERE;
     let mut i: usize = 0;
     let mut x: u64 = 0;
     while x <= to {
         let at = f + 4 * i;
         let e = ws[at];
         let p = load(ws, at);
-        let a = greater(x, from);
-        let b = lesser(e, to);
+        let a = x.max(from);
+        let b = e.min(to);
         best = lower(best, p, a, b, base);
         i += 1;
         x = e + 1;
@@ -449,14 +404,11 @@ pub fn least_in(ws: &[u64], f: usize, from: u64, to: u64, levels: u64, base: u64
     best
 }
 
-// The least, the lowest level that has it, and the least at the other levels; each a cost with its changes.
-#[derive(Clone, Copy)]
+// The least at the lowest level that has it, and the least at the other levels.
+#[derive(Clone, Copy, PartialEq, Eq)]
 pub struct Two {
-    pub value: u64,
-    pub changes: u64,
-    pub level: u64,
-    pub second: u64,
-    pub secondchanges: u64,
+    pub least: Low,
+    pub second: Rank,
 }
 
 // The less of two, the first where they are equal.
@@ -464,11 +416,7 @@ fn lesser_rank(a: Rank, b: Rank) -> Rank
     requires { (a.changes ≤ count_limit) × ((b.changes ≤ count_limit) × (b.value ≤ 4611686018427387904)) }
     ensures { ((rank_of result ≤ rank_of a) × (rank_of result ≤ rank_of b)) × ((result ≡ a) ⊎ (result ≡ b)) }
 {
-    if quadratic::comes_first(b.value, b.changes, a.value, a.changes) {
-        b
-    } else {
-        a
-    }
+    if quadratic::comes_first(b, a) { b } else { a }
 }
 
 // The less of best and of p at v, where v lies in [x, y]; else best.
@@ -483,11 +431,7 @@ fn lesser_at(best: Rank, p: Packed, v: u64, x: u64, y: u64) -> Rank
     if y < v {
         return best;
     }
-    let w = quadratic::eval(p, v);
-    let here = Rank {
-        value: w,
-        changes: p.w / quadratic::CHANGE,
-    };
+    let here = quadratic::eval(p, v);
     lesser_rank(best, here)
 }
 
@@ -495,43 +439,25 @@ fn lesser_at(best: Rank, p: Packed, v: u64, x: u64, y: u64) -> Rank
 // that its next least value stands beside its least.
 fn lower_two(best: Two, p: Packed, a: u64, e: u64, base: u64) -> Two
     requires small { Small (quad p) × ((v : ℕ) → base + a ≤ v → v ≤ base + e → down (quad p) v ≤ up (quad p) v) }
-    requires a_le_e { (a ≤ e) × ((0 < base) × ((base + e < 262144) × ((best.changes ≤ count_limit) × (best.secondchanges ≤ count_limit)))) }
+    requires a_le_e { (a ≤ e) × ((0 < base) × ((base + e < 262144) × ((best.least.rank.changes ≤ count_limit) × (best.second.changes ≤ count_limit)))) }
     ensures { TwoLowered best (quad p) a e base result }
 {
     let v = quadratic::lowest_min(p, base + a, base + e);
-    let w = quadratic::eval(p, v);
-    let k = p.w / quadratic::CHANGE;
-    let least = Rank {
-        value: best.value,
-        changes: best.changes,
-    };
-    if quadratic::comes_first(w, k, best.value, best.changes) {
+    let here = quadratic::eval(p, v);
+    let least = best.least.rank;
+    if quadratic::comes_first(here, least) {
         let before = lesser_at(least, p, v - 1, base + a, base + e);
         let second = lesser_at(before, p, v + 1, base + a, base + e);
         return Two {
-            value: w,
-            changes: k,
-            level: v - base,
-            second: second.value,
-            secondchanges: second.changes,
+            least: Low {
+                rank: here,
+                level: v - base,
+            },
+            second,
         };
     }
-    let next = Rank {
-        value: best.second,
-        changes: best.secondchanges,
-    };
-    let here = Rank {
-        value: w,
-        changes: k,
-    };
-    let second = lesser_rank(next, here);
-    Two {
-        value: best.value,
-        changes: best.changes,
-        level: best.level,
-        second: second.value,
-        secondchanges: second.changes,
-    }
+    let second = lesser_rank(best.second, here);
+    Two { second, ..best }
 }
 
 // The least of f, the lowest level that has it, and the least at the other levels, in one pass; none where there is no other level.
@@ -541,11 +467,11 @@ pub fn two_least(ws: &[u64], f: usize, levels: u64, base: u64) -> Two
     ensures { TwoLeast (costs base (piece ws.now f levels)) levels result }
 {
     let mut best = Two {
-        value: quadratic::NONE,
-        changes: 0,
-        level: 0,
-        second: quadratic::NONE,
-        secondchanges: 0,
+        least: Low {
+            rank: Rank::NONE,
+            level: 0,
+        },
+        second: Rank::NONE,
     };
     let mut i: usize = 0;
     let mut x: u64 = 0;
@@ -560,23 +486,23 @@ pub fn two_least(ws: &[u64], f: usize, levels: u64, base: u64) -> Two
     best
 }
 
-// dst: c with k changes at every level.
-pub fn constant(ws: &mut [u64], dst: usize, levels: u64, c: u64, k: u64)
-    requires { (dst + 4 * levels ≤ length ws.old) × (k ≤ count_limit) }
-    ensures { Made (λ (j : ℕ). flat c k) ws.old ws.new dst levels }
+// dst: one rank at every level.
+pub fn constant(ws: &mut [u64], dst: usize, levels: u64, rank: Rank)
+    requires { (dst + 4 * levels ≤ length ws.old) × (rank.changes ≤ count_limit) }
+    ensures { Made (λ (j : ℕ). flat rank.value rank.changes) ws.old ws.new dst levels }
 {
-    constant_to(ws, dst, 0, 0, levels, c, k);
+    constant_to(ws, dst, 0, 0, levels, rank);
 }
 
 // dst: the least of two at every level but the one that has it, where it is the other.
 pub fn constant_but(ws: &mut [u64], dst: usize, levels: u64, two: Two)
-    requires { ((dst + 4 * levels ≤ length ws.old) × (two.level < levels)) × ((two.changes ≤ count_limit) × (two.secondchanges ≤ count_limit)) }
+    requires { ((dst + 4 * levels ≤ length ws.old) × (two.least.level < levels)) × ((two.least.rank.changes ≤ count_limit) × (two.second.changes ≤ count_limit)) }
     ensures { Made (constant_but two) ws.old ws.new dst levels }
 {
-    let at = two.level;
-    let below = constant_to(ws, dst, 0, 0, at, two.value, two.changes);
-    let here = constant_to(ws, dst, below, at, at + 1, two.second, two.secondchanges);
-    constant_to(ws, dst, here, at + 1, levels, two.value, two.changes);
+    let Low { rank, level } = two.least;
+    let below = constant_to(ws, dst, 0, 0, level, rank);
+    let here = constant_to(ws, dst, below, level, level + 1, two.second);
+    constant_to(ws, dst, here, level + 1, levels, rank);
 }
 
 // The words of the list at f put at dst: four for each of the pieces, whose number is returned.
@@ -605,11 +531,7 @@ pub fn value_at(ws: &[u64], f: usize, j: u64, levels: u64, base: u64) -> Rank
         i += 1;
     }
     let p = load(ws, f + 4 * i);
-    let value = quadratic::eval(p, base + j);
-    Rank {
-        value,
-        changes: p.w / quadratic::CHANGE,
-    }
+    quadratic::eval(p, base + j)
 }
 
 // Whether f is one piece, none. Since equal neighbours are joined, a list that is none everywhere is; a wrong no would cost time only.
@@ -617,10 +539,5 @@ pub fn all_none(ws: &[u64], f: usize, levels: u64) -> bool
     requires { Held ws.now f levels × ((0 < levels) × (levels ≤ 262144)) }
     ensures { result ≡ none_only ws.now f levels }
 {
-    if ws[f] + 1 == levels {
-        if ws[f + 3] == quadratic::NONE {
-            return true;
-        }
-    }
-    false
+    ws[f] + 1 == levels && ws[f + 3] == quadratic::NONE
 }

@@ -22,13 +22,9 @@ overflow_add-ws c = omega (arith, (one (goal.at.overflow_add-ws c).Start).to)
 pub bounds-ws-f-then-ws-f : goal.bounds-ws-f-then-ws-f
 bounds-ws-f-then-ws-f c = omega (arith, (one (goal.at.bounds-ws-f-then-ws-f c).Start).room)
 
-pub returns-then-ws-f-eq-NONE : goal.returns-then-ws-f-eq-NONE
+pub returns-then-ws-f : goal.returns-then-ws-f
 unfolding none_only
-returns-then-ws-f-eq-NONE c = rw (eq-eqb _ _ c.if-ws-f.true, eq-eqb _ _ c.if-ws-f-eq-NONE.true)
-
-pub returns-else-ws-f-eq-NONE : goal.returns-else-ws-f-eq-NONE
-unfolding none_only
-returns-else-ws-f-eq-NONE c = rw (eq-eqb _ _ c.if-ws-f.true, ne_eqb _ _ c.if-ws-f-eq-NONE.false)
+returns-then-ws-f c = rw (eq-eqb _ _ c.if-ws-f.true)
 
 pub returns-else-ws-f : goal.returns-else-ws-f
 unfolding none_only

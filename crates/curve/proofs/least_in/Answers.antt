@@ -5,13 +5,10 @@ use Prim.Native.Nat.{◌+◌}
 use native.Mathlib.Omega.{arith}
 use Rattle.quadratic.specs.Quad.{Quad, quad, value}
 use Rattle.curve.specs.Pieces.{piece}
-use Rattle.curve.proofs.Laws.{Here, here, at_start, at_step}
+use Rattle.curve.proofs.Laws.{min_is, max_is, Here, here, at_start, at_step}
 use Rattle.curve.proofs.Prefix.{fine_on, fine_most, till_none, till_step, till_in}
 use Rattle.curve.proofs.least_in.Goals.{In-loop-x}
 use Rattle.curve.proofs.least_in.Goals as goal
-
-pub overflow_add-best : goal.overflow_add-best
-overflow_add-best c = omega arith
 
 pub loop-x-init : goal.loop-x-init
 loop-x-init c = (omega arith, (at_start c.requires.held.0.formed, till_none _ _ _))
@@ -34,14 +31,8 @@ bounds-ws-at c = omega (arith, (hf (goal.at.bounds-ws-at c).In-loop-x).within c.
 pub load-p-requires : goal.load-p-requires
 load-p-requires c = omega (arith, (hf (goal.at.load-p-requires c).In-loop-x).within c.requires.held.0.formed, c.requires.held.0.room)
 
-pub greater-a-requires : goal.greater-a-requires
-greater-a-requires c = tt
-
-pub lesser-b-requires : goal.lesser-b-requires
-lesser-b-requires c = tt
-
 pub lower-best-requires : goal.lower-best-requires
-lower-best-requires c = let l = c.lesser-b.ensures.0 in let g = c.greater-a.ensures.0 in
+lower-best-requires c = let l = (min_is _ _ _ c.min-b.ensures).0 in let g = (max_is _ _ _ c.max-a.ensures).0 in
     let w = fine_on (piece c.args.ws.now c.args.f c.args.levels) _ _ _ _ (quad c.load-p.result) c.requires.held.1 c.requires.by_index (hf (goal.at.lower-best-requires c).In-loop-x).from (hf (goal.at.lower-best-requires c).In-loop-x).to (λ j p q. (hf (goal.at.lower-best-requires c).In-loop-x).is j p q ∙ sym c.load-p.ensures) in
     record { small = (w.0, λ v p q. w.1 v (omega (arith, g)) (omega (arith, l))); b_bound = omega (arith, l, c.requires.to_lt_levels, c.requires.held.1) }
 
@@ -55,11 +46,11 @@ pub loop-x-smaller : goal.loop-x-smaller
 loop-x-smaller c = omega (arith, (hf (goal.at.loop-x-smaller c).In-loop-x).from, (hf (goal.at.loop-x-smaller c).In-loop-x).to)
 
 pub loop-x-preserved : goal.loop-x-preserved
-loop-x-preserved c = (
+loop-x-preserved c = let a = max_is _ _ _ c.max-a.ensures in let b = min_is _ _ _ c.min-b.ensures in (
   omega (arith, (hf (goal.at.loop-x-preserved c).In-loop-x).to),
   (
     at_step _ _ c.loop-x.invariant.1.0 (omega (arith, c.loop-x-test, c.requires.to_lt_levels)) (hf (goal.at.loop-x-preserved c).In-loop-x).from (omega arith) (inl (refl, refl)),
-    till_step _ _ _ _ _ _ _ c.args.base (quad c.load-p.result) _ _ c.loop-x.invariant.1.1 (hf (goal.at.loop-x-preserved c).In-loop-x).from (λ j p q. ap (λ (k : Quad). value k (c.args.base + j)) ((hf (goal.at.loop-x-preserved c).In-loop-x).is j p q ∙ sym c.load-p.ensures)) c.greater-a.ensures.0 c.greater-a.ensures.1 c.lesser-b.ensures.0 c.lesser-b.ensures.1 c.lower-best.ensures,
+    till_step _ _ _ _ _ _ _ c.args.base (quad c.load-p.result) _ _ c.loop-x.invariant.1.1 (hf (goal.at.loop-x-preserved c).In-loop-x).from (λ j p q. ap (λ (k : Quad). value k (c.args.base + j)) ((hf (goal.at.loop-x-preserved c).In-loop-x).is j p q ∙ sym c.load-p.ensures)) a.0 a.1 b.0 b.1 c.lower-best.ensures,
   ),
 )
 

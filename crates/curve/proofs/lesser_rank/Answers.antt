@@ -4,7 +4,7 @@ use mathlib.Core.Logic.{◌⊎◌, inl, inr}
 use Prim.Native.Nat.{◌≤◌, ◌<◌}
 use native.Mathlib.Omega.{arith}
 use borrow.Author.Tests.{ltb-true, ltb-false}
-use Rattle.curve.specs.declared.Rank.{Rank}
+use Rattle.quadratic.specs.declared.Rank.{Rank}
 use Rattle.curve.specs.Lows.{rank_of}
 use Rattle.curve.proofs.lesser_rank.Goals as goal
 

@@ -11,9 +11,6 @@ use Rattle.curve.proofs.Laws.{Seen, seen, at_start}
 use Rattle.curve.proofs.running_min.Goals.{In-loop-x}
 use Rattle.curve.proofs.running_min.Goals as goal
 
-pub overflow_add-run : goal.overflow_add-run
-overflow_add-run c = omega arith
-
 pub loop-x-init : goal.loop-x-init
 loop-x-init c = ((omega arith, (at_start c.requires.lent.0.formed, (omega (arith, lowest_zero (costs c.args.base (piece c.args.ws.now c.args.f c.args.levels))), omega arith))), emits_none _ _ _ _ _)
 

@@ -6,8 +6,8 @@ use native.Mathlib.Omega.{arith}
 use Rattle.quadratic.specs.Quad.{moved, Sized}
 use Rattle.curve.specs.Lists.{emits_none, emits_append, emits_then, emits_as, made, lent_kept, lent_piece}
 use Rattle.curve.specs.Pieces.{piece, Lent}
-use Rattle.curve.proofs.Laws.{small, Seen, seen, at_start, shift_none, shift_moved, shift_same}
-use Rattle.curve.proofs.shift.Goals.{After-constant_to-n, After-lesser-y, In-loop-x}
+use Rattle.curve.proofs.Laws.{min_is, small, Seen, seen, at_start, shift_none, shift_moved, shift_same}
+use Rattle.curve.proofs.shift.Goals.{After-constant_to-n, After-min-y, In-loop-x}
 use Rattle.curve.proofs.shift.Goals as goal
 
 pub constant_to-requires : goal.constant_to-requires
@@ -59,32 +59,29 @@ overflow_sub-levels c = omega arith
 pub overflow_sub-levels-in-loop-x : goal.overflow_sub-levels-in-loop-x
 overflow_sub-levels-in-loop-x c = omega arith
 
-pub lesser-y-requires : goal.lesser-y-requires
-lesser-y-requires c = omega arith
-
-ys : (c : After-lesser-y) → (c.loop-x.x ≤ c.lesser-y.result) × (c.lesser-y.result + c.args.gap < c.args.levels)
-ys c = (⊎_elim (λ p. omega (arith, (sf c.before.before.before.before).from)) (λ p. omega (arith, c.loop-x-test)) c.lesser-y.ensures.1, omega (arith, c.lesser-y.ensures.0.1, c.loop-x-test))
+ys : (c : After-min-y) → (c.loop-x.x ≤ c.min-y.result) × (c.min-y.result + c.args.gap < c.args.levels)
+ys c = (⊎_elim (λ p. omega (arith, (sf c.before.before.before.before).from)) (λ p. omega (arith, c.loop-x-test)) (min_is _ _ _ c.min-y.ensures).1, omega (arith, (min_is _ _ _ c.min-y.ensures).0.1, c.loop-x-test))
 
 pub overflow_add-y : goal.overflow_add-y
-overflow_add-y c = omega (arith, (ys (goal.at.overflow_add-y c).After-lesser-y).1)
+overflow_add-y c = omega (arith, (ys (goal.at.overflow_add-y c).After-min-y).1)
 
 pub append-n-requires : goal.append-n-requires
-append-n-requires c = let y = ys (goal.at.append-n-requires c).After-lesser-y in let i = c.loop-x.invariant.1 in omega (arith, y, i.count (c.constant_to-n.ensures.count (omega arith)), i.kept.size, c.constant_to-n.ensures.kept.size, c.requires.lent)
+append-n-requires c = let y = ys (goal.at.append-n-requires c).After-min-y in let i = c.loop-x.invariant.1 in omega (arith, y, i.count (c.constant_to-n.ensures.count (omega arith)), i.kept.size, c.constant_to-n.ensures.kept.size, c.requires.lent)
 
 pub next-i-requires : goal.next-i-requires
 next-i-requires c = omega (arith, (sf (goal.at.next-i-requires c).In-loop-x).index, c.requires.gap_bound)
 
 pub overflow_add-x-in-loop-x : goal.overflow_add-x-in-loop-x
-overflow_add-x-in-loop-x c = omega (arith, (ys (goal.at.overflow_add-x-in-loop-x c).After-lesser-y).1)
+overflow_add-x-in-loop-x c = omega (arith, (ys (goal.at.overflow_add-x-in-loop-x c).After-min-y).1)
 
 pub loop-x-smaller : goal.loop-x-smaller
-loop-x-smaller c = omega (arith, ys (goal.at.loop-x-smaller c).After-lesser-y, c.loop-x-test)
+loop-x-smaller c = omega (arith, ys (goal.at.loop-x-smaller c).After-min-y, c.loop-x-test)
 
 pub loop-x-preserved : goal.loop-x-preserved
-loop-x-preserved c = let y = ys (goal.at.loop-x-preserved c).After-lesser-y in let l = c.lesser-y in let e : l.result + c.args.gap + 1 ≡ l.result + 1 + c.args.gap = omega arith in (
-  (omega (arith, y.1), (sf (goal.at.loop-x-preserved c).In-loop-x).step l.result c.next-i.result y.0 l.ensures.0.0 c.next-i.ensures),
+loop-x-preserved c = let y = ys (goal.at.loop-x-preserved c).After-min-y in let l = c.min-y in let m = min_is _ _ _ l.ensures in let e : l.result + c.args.gap + 1 ≡ l.result + 1 + c.args.gap = omega arith in (
+  (omega (arith, y.1), (sf (goal.at.loop-x-preserved c).In-loop-x).step l.result c.next-i.result y.0 m.0.0 c.next-i.ensures),
   rw e at (emits_append (c.constant_to-n.ensures.count (omega arith)) (omega arith) (omega (arith, y.0)) c.loop-x.invariant.1 c.append-n.ensures
-      (λ j p q. c.shift-q.ensures ∙ ap (moved c.args.gap) c.load-p.ensures ∙ shift_moved c.args.gap j (piece c.constant_to-n.new.ws c.args.f c.args.levels) _ (omega arith) ((sf (goal.at.loop-x-preserved c).In-loop-x).is (j - c.args.gap) (omega arith) (omega (arith, l.ensures.0.0))))),
+      (λ j p q. c.shift-q.ensures ∙ ap (moved c.args.gap) c.load-p.ensures ∙ shift_moved c.args.gap j (piece c.constant_to-n.new.ws c.args.f c.args.levels) _ (omega arith) ((sf (goal.at.loop-x-preserved c).In-loop-x).is (j - c.args.gap) (omega arith) (omega (arith, m.0.0))))),
 )
 
 pub shape_of-ws : goal.shape_of-ws

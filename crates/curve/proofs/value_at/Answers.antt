@@ -1,7 +1,7 @@
 -- `curve::value_at`: the piece at the level is the first that does not end before it. Assumes nothing.
 use mathlib.Core.List.{List}
 use mathlib.Core.Logic.{inl}
-use mathlib.Core.Path.{◌≡◌, refl, sym, ◌∙◌, ap, subst}
+use mathlib.Core.Path.{◌≡◌, refl, sym, ◌∙◌, ap, ap₂, subst}
 use Prim.Native.Nat.{ℕ, ◌+◌, ◌*◌, ◌≤◌, ◌<◌}
 use native.Mathlib.Omega.{arith}
 use lib.ListN.{length}
@@ -74,13 +74,13 @@ whole c =
     let is : (i : ℕ) → c.args.j ≤ i → i ≤ c.args.j → piece c.args.ws.now c.args.f c.args.levels i ≡ quad c.load-p.result = λ i p q. let e : i ≡ c.args.j = omega arith in ap (piece c.args.ws.now c.args.f c.args.levels) e ∙ piece_there c.loop-i.invariant c.requires.j_lt_levels c.loop-i-test.false ∙ sym c.load-p.ensures in
     fine_on (piece c.args.ws.now c.args.f c.args.levels) _ c.args.base c.args.j c.args.j (quad c.load-p.result) c.requires.held.1 c.requires.by_index (omega arith) c.requires.j_lt_levels is
 
-pub eval-value-requires : goal.eval-value-requires
-eval-value-requires c =
+pub eval-requires : goal.eval-requires
+eval-requires c =
     let w = whole c in
     (w.0, (omega (arith, c.requires.held.1, c.requires.j_lt_levels), w.1 (c.args.base + c.args.j) (omega arith) (omega arith)))
 
 pub returns : goal.returns
 returns c = (
-  ap (λ (x : ℕ). lex x (quad c.load-p.result).k) c.eval-value.ensures.0 ∙ ap (λ (q : Quad). value q (c.args.base + c.args.j)) (c.load-p.ensures ∙ sym (piece_there c.loop-i.invariant c.requires.j_lt_levels c.loop-i-test.false)),
-  (whole (goal.at.returns c).After-load-p).0.few,
+  ap₂ lex c.eval.ensures.0.0 c.eval.ensures.0.1 ∙ ap (λ (q : Quad). value q (c.args.base + c.args.j)) (c.load-p.ensures ∙ sym (piece_there c.loop-i.invariant c.requires.j_lt_levels c.loop-i-test.false)),
+  omega (arith, (whole (goal.at.returns c).After-load-p).0.few, c.eval.ensures.0.1),
 )
