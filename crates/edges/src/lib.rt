@@ -17,12 +17,12 @@ ghost use Rattle.model.specs.Model.{change_of};
 ghost use Rattle.model.specs.Index.{up_min, down_min, edge_min, Permitted};
 ghost use Rattle.quadratic.specs.Quad.{count_limit, cost_limit};
 ghost use Rattle.curve.specs.Pieces.{piece, Apart};
-ghost use Rattle.curve.specs.Lows.{top_cost, low_of, costs, no_low};
+ghost use Rattle.curve.specs.Lows.{top_cost, low_of, costs};
 ghost use Rattle.curve.specs.Curve.{Limits};
 ghost use Rattle.edges.specs.Back.{LeastOf, pick_low};
 ghost use Rattle.edges.specs.Edge.{Into, Joint, Sound, Ready, Moved, StandsFor, Joined, Taken, WithLoss};
 
-use curve::Low;
+use curve::{Low, Rank};
 use plan::Kind;
 
 // work: at each level the least of f at the other levels. That is the least of all, but at a level that has it: there it is the second least. It
@@ -42,17 +42,17 @@ fn any_into(
     ensures { StandsFor (edge_min levels Any) pen 1 base levels ws.old ws.new f acc next work }
 {
     let two = curve::two_least(ws, f, levels, base);
-    let so_far = curve::value_at(ws, acc, two.level, levels, base);
-    if quadratic::comes_first(
-        two.value + pen,
-        two.changes + 1,
-        so_far.value,
-        so_far.changes,
-    ) {
+    let Low { rank, level } = two.least;
+    let so_far = curve::value_at(ws, acc, level, levels, base);
+    let offer = Rank {
+        value: rank.value + pen,
+        changes: rank.changes + 1,
+    };
+    if quadratic::comes_first(offer, so_far) {
         curve::constant_but(ws, work, levels, two);
-        return;
+    } else {
+        curve::constant(ws, work, levels, rank);
     }
-    curve::constant(ws, work, levels, two.value, two.changes);
 }
 
 // work: at each level the least of f at the levels at least gap below.
@@ -211,24 +211,13 @@ pub fn add_reading(ws: &mut [u64], f: usize, u: u64, w: u64, dst: usize, levels:
 
 // The lower of two, the first where they are equal.
 fn lower_of(a: Low, b: Low) -> Low
-    requires { (a.changes ≤ count_limit) × ((b.changes ≤ count_limit) × (b.value ≤ top_cost)) }
+    requires { (a.rank.changes ≤ count_limit) × ((b.rank.changes ≤ count_limit) × (b.rank.value ≤ top_cost)) }
     ensures { result ≡ pick_low (ltb (low_of b) (low_of a)) b a }
 {
-    if quadratic::comes_first(b.value, b.changes, a.value, a.changes) {
+    if quadratic::comes_first(b.rank, a.rank) {
         b
     } else {
         a
-    }
-}
-
-// Where there is no level to be taken from.
-fn no_low() -> Low
-    ensures { result ≡ no_low }
-{
-    Low {
-        value: quadratic::NONE + 1,
-        changes: 0,
-        level: 0,
     }
 }
 
@@ -241,7 +230,7 @@ fn least_below(ws: &[u64], f: usize, gap: u64, j: u64, levels: u64, base: u64) -
     if gap <= j {
         curve::least_in(ws, f, 0, j - gap, levels, base)
     } else {
-        no_low()
+        Low::NOWHERE
     }
 }
 
@@ -280,6 +269,6 @@ pub fn least_before(ws: &[u64], f: usize, kind: Kind, j: u64, levels: u64, base:
         2 => least_below(ws, f, gap, j, levels, base),
         3 => least_above(ws, f, gap, j, levels, base),
         4 => least_beside(ws, f, gap, j, levels, base),
-        5..=255 => no_low(),
+        5..=255 => Low::NOWHERE,
     }
 }
