@@ -17,6 +17,9 @@ ghost use Rattle.quadratic.specs.Quad.{quad, Small, Sized, Fine, raised, pushed,
 ghost use Rattle.curve.specs.Lows.{rank_of, LeastIn, TwoLeast, TwoLowered, LessAt, Drops, Prefixed, Lowered, prefix_of, costs, lowest};
 ghost use Rattle.curve.specs.Pieces.{Yields, none_only, quad_at, Kept, Built, Is, Formed, piece, Stored, Appended, Emits, Made, Apart, Held, Lent, Copyable, Copied, shift_of, mirror_of, constant_but, Turnable};
 
+mod levels;
+
+pub use levels::Grid;
 use quadratic::Packed;
 pub use quadratic::Rank;
 
@@ -125,28 +128,19 @@ fn next(i: usize, e: u64, y: u64) -> usize
 
 // dst: at each level the less of f's and of g's with pen and ch changes added. A turn for each stretch, which mostly is all of the levels that two pieces
 // share: a loop inside, over the stretches of two pieces, would take longer to begin than its one turn.
-pub fn least_of_two(
-    ws: &mut [u64],
-    f: usize,
-    g: usize,
-    pen: u64,
-    ch: u64,
-    dst: usize,
-    levels: u64,
-    base: u64,
-)
-    requires lent { Lent ws.old f dst (4 * levels) levels × (Lent ws.old g dst (4 * levels) levels × (dst + 4 * levels ≤ length ws.old)) }
-    requires pen_bound { ((pen ≤ 1152921504606846976) × (ch ≤ count_limit)) × (base + levels ≤ 262144) }
-    requires by_index { (j : ℕ) → j < levels → Sized (piece ws.old f levels j) }
-    requires by_index_2 { (j : ℕ) → j < levels → Sized (raised pen ch (piece ws.old g levels j)) }
-    requires by_index_3 { (j : ℕ) → j < levels → Yields (base + j) (piece ws.old f levels j) (raised pen ch (piece ws.old g levels j)) }
-    ensures { Made (λ (j : ℕ). better (base + j) (piece ws.old f levels j) (raised pen ch (piece ws.old g levels j))) ws.old ws.new dst levels }
+pub fn least_of_two(ws: &mut [u64], f: usize, g: usize, pen: u64, ch: u64, dst: usize, grid: Grid)
+    requires lent { Lent ws.old f dst (4 * grid.levels) grid.levels × (Lent ws.old g dst (4 * grid.levels) grid.levels × (dst + 4 * grid.levels ≤ length ws.old)) }
+    requires pen_bound { (pen ≤ 1152921504606846976) × (ch ≤ count_limit) }
+    requires by_index { (j : ℕ) → j < grid.levels → Sized (piece ws.old f grid.levels j) }
+    requires by_index_2 { (j : ℕ) → j < grid.levels → Sized (raised pen ch (piece ws.old g grid.levels j)) }
+    requires by_index_3 { (j : ℕ) → j < grid.levels → Yields (grid.base + j) (piece ws.old f grid.levels j) (raised pen ch (piece ws.old g grid.levels j)) }
+    ensures { Made (λ (j : ℕ). better (grid.base + j) (piece ws.old f grid.levels j) (raised pen ch (piece ws.old g grid.levels j))) ws.old ws.new dst grid.levels }
 {
     let mut i: usize = 0;
     let mut k: usize = 0;
     let mut n: usize = 0;
     let mut x: u64 = 0;
-    while x < levels {
+    while x < grid.levels {
         let at = f + 4 * i;
         let to = g + 4 * k;
         let e = ws[at];
@@ -155,7 +149,7 @@ pub fn least_of_two(
         let l = load(ws, to);
         let q = quadratic::raise(l, pen, ch);
         let y = e.min(h);
-        let r = next_stretch(p, q, x, y, base);
+        let r = next_stretch(p, q, x, y, grid.base);
         n = append(ws, dst, n, r.end, r.winner);
         i = next(i, e, r.end);
         k = next(k, h, r.end);
@@ -164,15 +158,15 @@ pub fn least_of_two(
 }
 
 // dst: f with w times the square (u - v)² more at each level. Neighbours of f that differ still do, so that none are compared.
-pub fn add_loss(ws: &mut [u64], f: usize, u: u64, w: u64, dst: usize, levels: u64)
-    requires lent { Lent ws.old f dst (4 * levels) levels × (dst + 4 * levels ≤ length ws.old) }
-    requires u_bound { ((u < 262144) × (w < 256)) × (levels ≤ 262144) }
-    requires by_index { (j : ℕ) → j < levels → Sized (piece ws.old f levels j) }
-    ensures { Made (λ (j : ℕ). pushed w u (piece ws.old f levels j)) ws.old ws.new dst levels }
+pub fn add_loss(ws: &mut [u64], f: usize, u: u64, w: u64, dst: usize, grid: Grid)
+    requires lent { Lent ws.old f dst (4 * grid.levels) grid.levels × (dst + 4 * grid.levels ≤ length ws.old) }
+    requires u_bound { (u < 262144) × (w < 256) }
+    requires by_index { (j : ℕ) → j < grid.levels → Sized (piece ws.old f grid.levels j) }
+    ensures { Made (λ (j : ℕ). pushed w u (piece ws.old f grid.levels j)) ws.old ws.new dst grid.levels }
 {
     let mut i: usize = 0;
     let mut x: u64 = 0;
-    while x < levels {
+    while x < grid.levels {
         let at = f + 4 * i;
         let e = ws[at];
         let p = load(ws, at);
@@ -201,25 +195,25 @@ fn constant_to(ws: &mut [u64], dst: usize, n: usize, x: u64, y: u64, rank: Rank)
 }
 
 // dst: at each level f's of gap levels below; none where there is no such level.
-pub fn shift(ws: &mut [u64], f: usize, gap: u64, dst: usize, levels: u64)
-    requires lent { Lent ws.old f dst (4 * levels) levels × (dst + 4 * levels ≤ length ws.old) }
-    requires gap_bound { (gap < 1024) × (levels ≤ 262144) }
-    requires by_index { (j : ℕ) → j < levels → Sized (piece ws.old f levels j) }
-    ensures { Made (shift_of gap (piece ws.old f levels)) ws.old ws.new dst levels }
+pub fn shift(ws: &mut [u64], f: usize, gap: u64, dst: usize, grid: Grid)
+    requires lent { Lent ws.old f dst (4 * grid.levels) grid.levels × (dst + 4 * grid.levels ≤ length ws.old) }
+    requires gap_bound { gap < 1024 }
+    requires by_index { (j : ℕ) → j < grid.levels → Sized (piece ws.old f grid.levels j) }
+    ensures { Made (shift_of gap (piece ws.old f grid.levels)) ws.old ws.new dst grid.levels }
 {
-    if levels <= gap {
-        constant_to(ws, dst, 0, 0, levels, Rank::NONE);
+    if grid.levels <= gap {
+        constant_to(ws, dst, 0, 0, grid.levels, Rank::NONE);
         return;
     }
     let mut n = constant_to(ws, dst, 0, 0, gap, Rank::NONE);
     let mut i: usize = 0;
     let mut x: u64 = 0;
-    while x + gap < levels {
+    while x + gap < grid.levels {
         let at = f + 4 * i;
         let e = ws[at];
         let p = load(ws, at);
         let q = quadratic::shift(p, gap);
-        let y = e.min(levels - 1 - gap);
+        let y = e.min(grid.levels - 1 - gap);
         n = append(ws, dst, n, y + gap, q);
         i = next(i, e, y);
         x = y + 1;
@@ -242,22 +236,22 @@ pub fn count(ws: &[u64], f: usize, levels: u64) -> usize
 
 // dst: f from its last level to its first, its pieces read in their order and written from the last place to the first. Neighbours of f that
 // differ still do, so that none are compared.
-pub fn mirror(ws: &mut [u64], f: usize, dst: usize, levels: u64, base: u64)
-    requires lent { Lent ws.old f dst (4 * levels) levels × (dst + 4 * levels ≤ length ws.old) }
-    requires le_base { (131072 ≤ base) × (base + levels ≤ 262144) }
-    requires by_index { (j : ℕ) → j < levels → Turnable (2 * base + (levels - 1)) (piece ws.old f levels j) }
-    ensures { Made (mirror_of (2 * base + (levels - 1)) levels (piece ws.old f levels)) ws.old ws.new dst levels }
+pub fn mirror(ws: &mut [u64], f: usize, dst: usize, grid: Grid)
+    requires lent { Lent ws.old f dst (4 * grid.levels) grid.levels × (dst + 4 * grid.levels ≤ length ws.old) }
+    requires le_base { 131072 ≤ grid.base }
+    requires by_index { (j : ℕ) → j < grid.levels → Turnable (2 * grid.base + (grid.levels - 1)) (piece ws.old f grid.levels j) }
+    ensures { Made (mirror_of (2 * grid.base + (grid.levels - 1)) grid.levels (piece ws.old f grid.levels)) ws.old ws.new dst grid.levels }
 {
-    let mut n = count(ws, f, levels);
+    let mut n = count(ws, f, grid.levels);
     let mut i: usize = 0;
     let mut x: u64 = 0;
-    while x < levels {
+    while x < grid.levels {
         n -= 1;
         let at = f + 4 * i;
         let e = ws[at];
         let p = load(ws, at);
-        let q = quadratic::mirror(p, 2 * base + (levels - 1));
-        store(ws, dst + 4 * n, levels - 1 - x, q);
+        let q = quadratic::mirror(p, 2 * grid.base + (grid.levels - 1));
+        store(ws, dst + 4 * n, grid.levels - 1 - x, q);
         i += 1;
         x = e + 1;
     }
@@ -338,11 +332,10 @@ fn running_min_on(ws: &mut [u64], dst: usize, run: Run, p: Packed, a: u64, e: u6
 }
 
 // dst: at each level the least of f's at that level and at those below.
-pub fn running_min(ws: &mut [u64], f: usize, dst: usize, levels: u64, base: u64)
-    requires lent { Lent ws.old f dst (4 * levels) levels × (dst + 4 * levels ≤ length ws.old) }
-    requires levels_bound { base + levels ≤ 262144 }
-    requires by_index { (j : ℕ) → j < levels → Small (piece ws.old f levels j) × (down (piece ws.old f levels j) (base + j) ≤ up (piece ws.old f levels j) (base + j)) }
-    ensures { Made (prefix_of base (piece ws.old f levels)) ws.old ws.new dst levels }
+pub fn running_min(ws: &mut [u64], f: usize, dst: usize, grid: Grid)
+    requires lent { Lent ws.old f dst (4 * grid.levels) grid.levels × (dst + 4 * grid.levels ≤ length ws.old) }
+    requires by_index { (j : ℕ) → j < grid.levels → Small (piece ws.old f grid.levels j) × (down (piece ws.old f grid.levels j) (grid.base + j) ≤ up (piece ws.old f grid.levels j) (grid.base + j)) }
+    ensures { Made (prefix_of grid.base (piece ws.old f grid.levels)) ws.old ws.new dst grid.levels }
 {
     let mut run = Run {
         n: 0,
@@ -350,11 +343,11 @@ pub fn running_min(ws: &mut [u64], f: usize, dst: usize, levels: u64, base: u64)
     };
     let mut i: usize = 0;
     let mut x: u64 = 0;
-    while x < levels {
+    while x < grid.levels {
         let at = f + 4 * i;
         let e = ws[at];
         let p = load(ws, at);
-        run = running_min_on(ws, dst, run, p, x, e, base);
+        run = running_min_on(ws, dst, run, p, x, e, grid.base);
         i += 1;
         x = e + 1;
     }
@@ -382,11 +375,11 @@ fn lower(best: Low, p: Packed, a: u64, b: u64, base: u64) -> Low
 }
 
 // The least of f at the levels from .. to, and the lowest level that has it; more than none, at level 0, where there is no such level.
-pub fn least_in(ws: &[u64], f: usize, from: u64, to: u64, levels: u64, base: u64) -> Low
-    requires held { Held ws.now f levels × (base + levels ≤ 262144) }
-    requires to_lt_levels { to < levels }
-    requires by_index { (j : ℕ) → j < levels → Fine count_limit cost_limit (piece ws.now f levels j) (base + j) }
-    ensures { LeastIn (costs base (piece ws.now f levels)) from to result }
+pub fn least_in(ws: &[u64], f: usize, from: u64, to: u64, grid: Grid) -> Low
+    requires held { Held ws.now f grid.levels }
+    requires to_lt_levels { to < grid.levels }
+    requires by_index { (j : ℕ) → j < grid.levels → Fine count_limit cost_limit (piece ws.now f grid.levels j) (grid.base + j) }
+    ensures { LeastIn (costs grid.base (piece ws.now f grid.levels)) from to result }
 {
     let mut best = Low::NOWHERE;
     let mut i: usize = 0;
@@ -397,7 +390,7 @@ pub fn least_in(ws: &[u64], f: usize, from: u64, to: u64, levels: u64, base: u64
         let p = load(ws, at);
         let a = x.max(from);
         let b = e.min(to);
-        best = lower(best, p, a, b, base);
+        best = lower(best, p, a, b, grid.base);
         i += 1;
         x = e + 1;
     }
@@ -461,10 +454,10 @@ fn lower_two(best: Two, p: Packed, a: u64, e: u64, base: u64) -> Two
 }
 
 // The least of f, the lowest level that has it, and the least at the other levels, in one pass; none where there is no other level.
-pub fn two_least(ws: &[u64], f: usize, levels: u64, base: u64) -> Two
-    requires held { Held ws.now f levels × ((0 < base) × (base + levels ≤ 262144)) }
-    requires by_index { (j : ℕ) → j < levels → Fine count_limit cost_limit (piece ws.now f levels j) (base + j) }
-    ensures { TwoLeast (costs base (piece ws.now f levels)) levels result }
+pub fn two_least(ws: &[u64], f: usize, grid: Grid) -> Two
+    requires held { Held ws.now f grid.levels × (0 < grid.base) }
+    requires by_index { (j : ℕ) → j < grid.levels → Fine count_limit cost_limit (piece ws.now f grid.levels j) (grid.base + j) }
+    ensures { TwoLeast (costs grid.base (piece ws.now f grid.levels)) grid.levels result }
 {
     let mut best = Two {
         least: Low {
@@ -475,11 +468,11 @@ pub fn two_least(ws: &[u64], f: usize, levels: u64, base: u64) -> Two
     };
     let mut i: usize = 0;
     let mut x: u64 = 0;
-    while x < levels {
+    while x < grid.levels {
         let at = f + 4 * i;
         let e = ws[at];
         let p = load(ws, at);
-        best = lower_two(best, p, x, e, base);
+        best = lower_two(best, p, x, e, grid.base);
         i += 1;
         x = e + 1;
     }
@@ -520,18 +513,18 @@ pub fn copy(ws: &mut [u64], f: usize, dst: usize, levels: u64) -> usize
 }
 
 // What f costs at level j, and with how many changes.
-pub fn value_at(ws: &[u64], f: usize, j: u64, levels: u64, base: u64) -> Rank
-    requires held { Held ws.now f levels × (base + levels ≤ 262144) }
-    requires j_lt_levels { j < levels }
-    requires by_index { (i : ℕ) → i < levels → Fine count_limit cost_limit (piece ws.now f levels i) (base + i) }
-    ensures { (rank_of result ≡ costs base (piece ws.now f levels) j) × (result.changes ≤ count_limit) }
+pub fn value_at(ws: &[u64], f: usize, j: u64, grid: Grid) -> Rank
+    requires held { Held ws.now f grid.levels }
+    requires j_lt_levels { j < grid.levels }
+    requires by_index { (i : ℕ) → i < grid.levels → Fine count_limit cost_limit (piece ws.now f grid.levels i) (grid.base + i) }
+    ensures { (rank_of result ≡ costs grid.base (piece ws.now f grid.levels) j) × (result.changes ≤ count_limit) }
 {
     let mut i: usize = 0;
     while ws[f + 4 * i] < j {
         i += 1;
     }
     let p = load(ws, f + 4 * i);
-    quadratic::eval(p, base + j)
+    quadratic::eval(p, grid.base + j)
 }
 
 // Whether f is one piece, none. Since equal neighbours are joined, a list that is none everywhere is; a wrong no would cost time only.

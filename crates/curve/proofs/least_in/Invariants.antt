@@ -7,7 +7,7 @@ use Rattle.curve.proofs.Prefix.{Till}
 use Rattle.curve.proofs.least_in.Given as goal
 
 abbrev pub invariant-loop-x : goal.invariant-loop-x
-invariant-loop-x l = (l.x ≤ l.levels) × (At l.ws l.f l.levels l.i l.x × Till (costs l.base (piece l.ws l.f l.levels)) l.from l.to l.x l.best)
+invariant-loop-x l = (l.x ≤ l.grid.levels) × (At l.ws l.f l.grid.levels l.i l.x × Till (costs l.grid.base (piece l.ws l.f l.grid.levels)) l.from l.to l.x l.best)
 
 abbrev pub decreases-loop-x : goal.decreases-loop-x
-decreases-loop-x l = l.levels - l.x
+decreases-loop-x l = l.grid.levels - l.x

@@ -9,7 +9,7 @@ use mathlib.Core.Path.{sym, ◌∙◌, ap, subst}
 use Rattle.curve.proofs.mirror.Goals as goal
 
 pub count-n-requires : goal.count-n-requires
-count-n-requires c = (record { formed = c.requires.lent.0.formed; room = c.requires.lent.0.room }, omega (arith, c.requires.le_base))
+count-n-requires c = (record { formed = c.requires.lent.0.formed; room = c.requires.lent.0.room }, omega (arith, c.args.grid.within))
 
 pub loop-x-init : goal.loop-x-init
 loop-x-init c = (omega arith, turning_none _ _ c.count-n.ensures)
@@ -18,7 +18,7 @@ pub overflow_sub-n : goal.overflow_sub-n
 overflow_sub-n c = let t = next_piece c.requires.lent.0 c.loop-x.invariant.1 c.loop-x-test.true in omega (arith, t.inside, c.loop-x.invariant.1.left)
 
 pub overflow_mul-at : goal.overflow_mul-at
-overflow_mul-at c = let t = next_piece c.requires.lent.0 c.loop-x.invariant.1 c.loop-x-test.true in omega (arith, t.inside, t.most, c.requires.le_base)
+overflow_mul-at c = let t = next_piece c.requires.lent.0 c.loop-x.invariant.1 c.loop-x-test.true in omega (arith, t.inside, t.most, c.args.grid.within)
 
 pub overflow_add-at : goal.overflow_add-at
 overflow_add-at c = let t = next_piece c.requires.lent.0 c.loop-x.invariant.1 c.loop-x-test.true in omega (arith, t.seen.room, c.well_formed.0.1)
@@ -32,44 +32,44 @@ bounds-ws-at c = let t = next_piece c.requires.lent.0 c.loop-x.invariant.1 c.loo
 pub load-p-requires : goal.load-p-requires
 load-p-requires c = (next_piece c.requires.lent.0 c.loop-x.invariant.1 c.loop-x-test.true).seen.room
 
-pub overflow_mul-base : goal.overflow_mul-base
-overflow_mul-base c = omega (arith, c.requires.le_base)
+pub overflow_mul-grid : goal.overflow_mul-grid
+overflow_mul-grid c = omega (arith, c.args.grid.within)
 
-pub overflow_sub-levels : goal.overflow_sub-levels
-overflow_sub-levels c = omega (arith, c.loop-x-test.true)
+pub overflow_sub-grid : goal.overflow_sub-grid
+overflow_sub-grid c = omega (arith, c.loop-x-test.true)
 
-pub overflow_add-base : goal.overflow_add-base
-overflow_add-base c = omega (arith, c.requires.le_base)
+pub overflow_add-grid : goal.overflow_add-grid
+overflow_add-grid c = omega (arith, c.args.grid.within)
 
 pub mirror-q-requires : goal.mirror-q-requires
-mirror-q-requires c = let t = next_piece c.requires.lent.0 c.loop-x.invariant.1 c.loop-x-test.true in let q = subst (Turnable (2 * c.args.base + (c.args.levels - 1))) (t.seen.is c.loop-x.x (omega arith) t.seen.from ∙ sym c.load-p.ensures) (c.requires.by_index c.loop-x.x c.loop-x-test.true) in record { small = (small q.sized, omega (arith, c.requires.le_base)); z_bound = (q.sum, q.rest) }
+mirror-q-requires c = let t = next_piece c.requires.lent.0 c.loop-x.invariant.1 c.loop-x-test.true in let q = subst (Turnable (2 * c.args.grid.base + (c.args.grid.levels - 1))) (t.seen.is c.loop-x.x (omega arith) t.seen.from ∙ sym c.load-p.ensures) (c.requires.by_index c.loop-x.x c.loop-x-test.true) in record { small = (small q.sized, omega (arith, c.args.grid.within)); z_bound = (q.sum, q.rest) }
 
 pub overflow_mul-n : goal.overflow_mul-n
-overflow_mul-n c = let t = next_piece c.requires.lent.0 c.loop-x.invariant.1 c.loop-x-test.true in omega (arith, t.inside, t.most, c.loop-x.invariant.1.left, c.requires.le_base)
+overflow_mul-n c = let t = next_piece c.requires.lent.0 c.loop-x.invariant.1 c.loop-x-test.true in omega (arith, t.inside, t.most, c.loop-x.invariant.1.left, c.args.grid.within)
 
 pub overflow_add-dst : goal.overflow_add-dst
 overflow_add-dst c = let t = next_piece c.requires.lent.0 c.loop-x.invariant.1 c.loop-x-test.true in omega (arith, t.inside, t.most, c.loop-x.invariant.1.left, c.requires.lent.1, c.well_formed.0.1)
 
-pub overflow_sub-levels-in-loop-x : goal.overflow_sub-levels-in-loop-x
-overflow_sub-levels-in-loop-x c = omega (arith, c.loop-x-test.true)
+pub overflow_sub-grid-in-loop-x : goal.overflow_sub-grid-in-loop-x
+overflow_sub-grid-in-loop-x c = omega (arith, c.loop-x-test.true)
 
-pub overflow_sub-levels-in-loop-x-2 : goal.overflow_sub-levels-in-loop-x-2
-overflow_sub-levels-in-loop-x-2 c = omega (arith, c.loop-x-test.true)
+pub overflow_sub-grid-in-loop-x-2 : goal.overflow_sub-grid-in-loop-x-2
+overflow_sub-grid-in-loop-x-2 c = omega (arith, c.loop-x-test.true)
 
 pub store-requires : goal.store-requires
 store-requires c = let t = next_piece c.requires.lent.0 c.loop-x.invariant.1 c.loop-x-test.true in omega (arith, t.inside, t.most, c.loop-x.invariant.1.left, c.requires.lent.1, c.loop-x.invariant.1.turned.kept.size)
 
 pub overflow_add-i : goal.overflow_add-i
-overflow_add-i c = let t = next_piece c.requires.lent.0 c.loop-x.invariant.1 c.loop-x-test.true in omega (arith, t.inside, t.most, c.requires.le_base)
+overflow_add-i c = let t = next_piece c.requires.lent.0 c.loop-x.invariant.1 c.loop-x-test.true in omega (arith, t.inside, t.most, c.args.grid.within)
 
 pub overflow_add-x : goal.overflow_add-x
-overflow_add-x c = let t = next_piece c.requires.lent.0 c.loop-x.invariant.1 c.loop-x-test.true in omega (arith, t.seen.to, c.requires.le_base)
+overflow_add-x c = let t = next_piece c.requires.lent.0 c.loop-x.invariant.1 c.loop-x-test.true in omega (arith, t.seen.to, c.args.grid.within)
 
 pub loop-x-smaller : goal.loop-x-smaller
 loop-x-smaller c = let t = next_piece c.requires.lent.0 c.loop-x.invariant.1 c.loop-x-test.true in omega (arith, t.seen.from, c.loop-x-test.true)
 
 pub loop-x-preserved : goal.loop-x-preserved
-loop-x-preserved c = let t = next_piece c.requires.lent.0 c.loop-x.invariant.1 c.loop-x-test.true in (omega (arith, t.seen.to), t.more c.store.ensures (c.mirror-q.ensures ∙ ap (mirrored (2 * c.args.base + (c.args.levels - 1))) c.load-p.ensures))
+loop-x-preserved c = let t = next_piece c.requires.lent.0 c.loop-x.invariant.1 c.loop-x-test.true in (omega (arith, t.seen.to), t.more c.store.ensures (c.mirror-q.ensures ∙ ap (mirrored (2 * c.args.grid.base + (c.args.grid.levels - 1))) c.load-p.ensures))
 
 pub shape_of-ws : goal.shape_of-ws
 shape_of-ws c = c.loop-x.invariant.1.turned.kept.size

@@ -8,7 +8,7 @@ use Rattle.curve.proofs.Laws.{At}
 use Rattle.curve.proofs.running_min.Given as goal
 
 abbrev pub invariant-loop-x : goal.invariant-loop-x
-invariant-loop-x l = ((l.x ≤ l.levels) × (At l.initial.ws l.f l.levels l.i l.x × ((lowest (costs l.base (piece l.initial.ws l.f l.levels)) l.x ≡ best_of l.run) × (l.run.best.changes ≤ count_limit)))) × Emits (prefix_of l.base (piece l.initial.ws l.f l.levels)) l.initial.ws l.ws l.dst 0 0 l.x l.run.n
+invariant-loop-x l = ((l.x ≤ l.grid.levels) × (At l.initial.ws l.f l.grid.levels l.i l.x × ((lowest (costs l.grid.base (piece l.initial.ws l.f l.grid.levels)) l.x ≡ best_of l.run) × (l.run.best.changes ≤ count_limit)))) × Emits (prefix_of l.grid.base (piece l.initial.ws l.f l.grid.levels)) l.initial.ws l.ws l.dst 0 0 l.x l.run.n
 
 abbrev pub decreases-loop-x : goal.decreases-loop-x
-decreases-loop-x l = l.levels - l.x
+decreases-loop-x l = l.grid.levels - l.x

@@ -15,7 +15,7 @@ use Rattle.curve.proofs.two_least.Goals as goal
 pub loop-x-init : goal.loop-x-init
 loop-x-init c = (omega arith, (at_start c.requires.held.0.formed, two_none _))
 
-hf : (c : In-loop-x) → Here c.args.ws.now c.args.f c.args.levels c.loop-x.i c.loop-x.x
+hf : (c : In-loop-x) → Here c.args.ws.now c.args.f c.args.grid.levels c.loop-x.i c.loop-x.x
 hf c = here c.loop-x.invariant.1.0 c.loop-x-test.true
 
 room : (c : In-loop-x) → c.args.f + 4 * c.loop-x.i + 4 ≤ length c.args.ws.now
@@ -38,14 +38,14 @@ load-p-requires c = room (goal.at.load-p-requires c).In-loop-x
 
 pub lower_two-best-requires : goal.lower_two-best-requires
 lower_two-best-requires c =
-    let w = fine_on (piece c.args.ws.now c.args.f c.args.levels) _ _ _ _ (quad c.load-p.result) c.requires.held.1.1 c.requires.by_index (hf (goal.at.lower_two-best-requires c).In-loop-x).from (hf (goal.at.lower_two-best-requires c).In-loop-x).to (λ j p q. (hf (goal.at.lower_two-best-requires c).In-loop-x).is j p q ∙ sym c.load-p.ensures) in
-    record { small = w; a_le_e = ((hf (goal.at.lower_two-best-requires c).In-loop-x).from, (c.requires.held.1.0, omega (arith, (hf (goal.at.lower_two-best-requires c).In-loop-x).to, c.requires.held.1.1))) }
+    let w = fine_on (piece c.args.ws.now c.args.f c.args.grid.levels) _ _ _ _ (quad c.load-p.result) c.args.grid.within c.requires.by_index (hf (goal.at.lower_two-best-requires c).In-loop-x).from (hf (goal.at.lower_two-best-requires c).In-loop-x).to (λ j p q. (hf (goal.at.lower_two-best-requires c).In-loop-x).is j p q ∙ sym c.load-p.ensures) in
+    record { small = w; a_le_e = ((hf (goal.at.lower_two-best-requires c).In-loop-x).from, (c.requires.held.1, omega (arith, (hf (goal.at.lower_two-best-requires c).In-loop-x).to, c.args.grid.within))) }
 
 pub overflow_add-i : goal.overflow_add-i
-overflow_add-i c = omega (arith, (hf (goal.at.overflow_add-i c).In-loop-x).index, c.requires.held.1.1)
+overflow_add-i c = omega (arith, (hf (goal.at.overflow_add-i c).In-loop-x).index, c.args.grid.within)
 
 pub overflow_add-x : goal.overflow_add-x
-overflow_add-x c = omega (arith, (hf (goal.at.overflow_add-x c).In-loop-x).to, c.requires.held.1.1)
+overflow_add-x c = omega (arith, (hf (goal.at.overflow_add-x c).In-loop-x).to, c.args.grid.within)
 
 pub loop-x-smaller : goal.loop-x-smaller
 loop-x-smaller c = omega (arith, (hf (goal.at.loop-x-smaller c).In-loop-x).from, (hf (goal.at.loop-x-smaller c).In-loop-x).to)
@@ -55,9 +55,9 @@ loop-x-preserved c = (
   omega (arith, (hf (goal.at.loop-x-preserved c).In-loop-x).to),
   (
     at_step _ _ c.loop-x.invariant.1.0 c.loop-x-test.true (hf (goal.at.loop-x-preserved c).In-loop-x).from (omega arith) (inl (refl, refl)),
-    c.lower_two-best.ensures.on _ (λ j p q. (ap (λ (k : Quad). value k (c.args.base + j)) ((hf (goal.at.loop-x-preserved c).In-loop-x).is j p q ∙ sym c.load-p.ensures), fine_most (piece c.args.ws.now c.args.f c.args.levels) _ _ c.requires.held.1.1 c.requires.by_index j (omega (arith, (hf (goal.at.loop-x-preserved c).In-loop-x).to)))) c.loop-x.invariant.1.1,
+    c.lower_two-best.ensures.on _ (λ j p q. (ap (λ (k : Quad). value k (c.args.grid.base + j)) ((hf (goal.at.loop-x-preserved c).In-loop-x).is j p q ∙ sym c.load-p.ensures), fine_most (piece c.args.ws.now c.args.f c.args.grid.levels) _ _ c.args.grid.within c.requires.by_index j (omega (arith, (hf (goal.at.loop-x-preserved c).In-loop-x).to)))) c.loop-x.invariant.1.1,
   ),
 )
 
 pub returns : goal.returns
-returns c = let e : c.loop-x.x ≡ c.args.levels = omega arith in rw e at c.loop-x.invariant.1.1
+returns c = let e : c.loop-x.x ≡ c.args.grid.levels = omega arith in rw e at c.loop-x.invariant.1.1

@@ -6,7 +6,7 @@ use Rattle.curve.proofs.Laws.{At}
 use Rattle.curve.proofs.two_least.Given as goal
 
 abbrev pub invariant-loop-x : goal.invariant-loop-x
-invariant-loop-x l = (l.x ≤ l.levels) × (At l.ws l.f l.levels l.i l.x × TwoLeast (costs l.base (piece l.ws l.f l.levels)) l.x l.best)
+invariant-loop-x l = (l.x ≤ l.grid.levels) × (At l.ws l.f l.grid.levels l.i l.x × TwoLeast (costs l.grid.base (piece l.ws l.f l.grid.levels)) l.x l.best)
 
 abbrev pub decreases-loop-x : goal.decreases-loop-x
-decreases-loop-x l = l.levels - l.x
+decreases-loop-x l = l.grid.levels - l.x

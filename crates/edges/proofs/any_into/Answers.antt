@@ -10,10 +10,10 @@ use Rattle.edges.proofs.Moves.{ready_from, least_room, others_stand, least_stand
 use Rattle.edges.proofs.any_into.Goals as goal
 
 pub two_least-two-requires : goal.two_least-two-requires
-two_least-two-requires c = record { held = ((ready_from c.requires).held, (omega (arith, c.requires.limits.low), c.requires.limits.high)); by_index = curve_fine c.requires.limits (ready_from c.requires) }
+two_least-two-requires c = record { held = ((ready_from c.requires).held, omega (arith, c.requires.limits.low)); by_index = curve_fine c.requires.limits (ready_from c.requires) }
 
 pub value_at-so_far-requires : goal.value_at-so_far-requires
-value_at-so_far-requires c = record { held = (c.requires.so_far.held, c.requires.limits.high); j_lt_levels = any_inside c.requires.some c.two_least-two.ensures; by_index = curve_fine c.requires.limits c.requires.so_far }
+value_at-so_far-requires c = record { held = c.requires.so_far.held; j_lt_levels = any_inside c.requires.some c.two_least-two.ensures; by_index = curve_fine c.requires.limits c.requires.so_far }
 
 pub overflow_add-offer : goal.overflow_add-offer
 overflow_add-offer c = omega (arith, c.requires.low, least_room c.requires c.two_least-two.ensures)
