@@ -29,7 +29,7 @@ pub struct Packed {
 }
 
 // A cost and a number of changes. The one that comes first is the less of two.
-#[derive(Clone, Copy, PartialEq, Eq)]
+#[derive(Clone, Copy, PartialEq, Eq, PartialOrd, Ord)]
 pub struct Rank {
     pub value: u64,
     pub changes: u64,
