@@ -12,10 +12,10 @@
 // `curve_sized`, ..) and say what each result costs at each level (`curve_least`, `curve_shift`, ..).
 #![tactic(auto)]
 
-ghost use Rattle.std.specs.Prelude.{◌≡◌, true, false, ◌⊎◌, ℕ, ◌+◌, ◌*◌, ◌-◌, ◌≤◌, ◌<◌, length, get_or};
+ghost use Rattle.std.specs.Prelude.{◌≡◌, true, false, ◌⊎◌, ℕ, ◌+◌, ◌*◌, ◌-◌, ◌≤◌, ◌<◌, length, get_or, MatchOption};
 ghost use Rattle.quadratic.specs.Quad.{quad, Small, Sized, Fine, raised, pushed, moved, mirrored, better, value, flat, none, up, down, Under, Over, Stays, count_limit, cost_limit};
 ghost use Rattle.curve.specs.Lows.{rank_of, LeastIn, TwoLeast, TwoLowered, LessAt, Drops, Prefixed, Lowered, prefix_of, costs, lowest};
-ghost use Rattle.curve.specs.Pieces.{Yields, none_only, quad_at, Kept, Built, Is, Formed, piece, Stored, Appended, Emits, Made, Apart, Held, Lent, Copyable, Copied, shift_of, mirror_of, constant_but, Turnable};
+ghost use Rattle.curve.specs.Pieces.{end_of, Passed, Yields, none_only, quad_at, Kept, Built, Is, Formed, piece, Stored, Appended, Emits, Made, Apart, Held, Lent, Copyable, Copied, shift_of, mirror_of, constant_but, Turnable};
 
 mod levels;
 
@@ -32,6 +32,56 @@ fn load(ws: &[u64], at: usize) -> Packed
         w: ws[at + 1],
         z: ws[at + 2],
         c: ws[at + 3],
+    }
+}
+
+// A piece: how many stand before it, its first and its last level, and its quadratic.
+#[derive(Clone, Copy)]
+struct Piece {
+    index: usize,
+    from: u64,
+    to: u64,
+    q: Packed,
+}
+
+// How far a walk over the pieces of a list has come: so many are passed, and the next one begins at the level `from`. It borrows no word and so is no
+// iterator of the library: the list that is read lies in the slice that is written.
+#[derive(Clone, Copy)]
+struct Walk {
+    list: usize,
+    index: usize,
+    from: u64,
+}
+
+impl Walk {
+    fn over(list: usize) -> Walk
+        ensures { result ≡ record { list = list; index = 0; from = 0 } }
+    {
+        Walk {
+            list,
+            index: 0,
+            from: 0,
+        }
+    }
+
+    // The next piece, if it begins below the level `end`.
+    fn next(&mut self, ws: &[u64], end: u64) -> Option<Piece>
+        requires { self.old.from < end → (self.old.list + 4 * self.old.index + 4 ≤ length ws.now) × (end_of ws.now self.old.list self.old.index < 262144) }
+        ensures { MatchOption result ((end ≤ self.old.from) × (self.new ≡ self.old)) (λ p. Passed ws.now self.old self.new end p) }
+    {
+        if end <= self.from {
+            return None;
+        }
+        let at = self.list + 4 * self.index;
+        let piece = Piece {
+            index: self.index,
+            from: self.from,
+            to: ws[at],
+            q: load(ws, at),
+        };
+        self.index += 1;
+        self.from = piece.to + 1;
+        Some(piece)
     }
 }
 
@@ -225,13 +275,12 @@ pub fn count(ws: &[u64], f: usize, levels: u64) -> usize
     requires { Held ws.now f levels × (levels ≤ 262144) }
     ensures { Built (Is (piece ws.now f levels)) ws.now f result levels }
 {
-    let mut i: usize = 0;
-    let mut x: u64 = 0;
-    while x < levels {
-        x = ws[f + 4 * i] + 1;
-        i += 1;
+    let mut pieces = Walk::over(f);
+    let mut n: usize = 0;
+    while let Some(_) = pieces.next(ws, levels) {
+        n += 1;
     }
-    i
+    n
 }
 
 // dst: f from its last level to its first, its pieces read in their order and written from the last place to the first. Neighbours of f that
@@ -466,15 +515,9 @@ pub fn two_least(ws: &[u64], f: usize, grid: Grid) -> Two
         },
         second: Rank::NONE,
     };
-    let mut i: usize = 0;
-    let mut x: u64 = 0;
-    while x < grid.levels {
-        let at = f + 4 * i;
-        let e = ws[at];
-        let p = load(ws, at);
-        best = lower_two(best, p, x, e, grid.base);
-        i += 1;
-        x = e + 1;
+    let mut pieces = Walk::over(f);
+    while let Some(piece) = pieces.next(ws, grid.levels) {
+        best = lower_two(best, piece.q, piece.from, piece.to, grid.base);
     }
     best
 }
