@@ -207,6 +207,8 @@ pub record Seen (ws₀ ws : List ℕ) (o L i x : ℕ) : Type 0 where
   pub room : o + 4 * i + 4 ≤ length ws
   pub from : x ≤ end_of ws o i
   pub to : end_of ws o i < L
+  pub ends : end_of ws o i ≡ end_of ws₀ o i
+  pub there : quad_at ws (o + 4 * i) ≡ quad_at ws₀ (o + 4 * i)
   pub is : (j : ℕ) → x ≤ j → j ≤ end_of ws o i → piece ws₀ o L j ≡ quad_at ws (o + 4 * i)
   pub step : (y r : ℕ) → x ≤ y → y ≤ end_of ws o i → ((end_of ws o i ≡ y) × (r ≡ i + 1)) ⊎ ((end_of ws o i ≡ y → ⊥) × (r ≡ i)) → At ws₀ o L r (y + 1)
 
@@ -217,6 +219,8 @@ seen {ws₀} {ws} {dst} {len} {o} {L} {i} {x} k h l a g = record {
   room = omega (arith, k.size, l.room, s.within l.formed);
   from = rw e s.from;
   to = rw e s.to;
+  ends = e;
+  there = same_quad m i (omega (arith, s.within l.formed));
   is = λ j p q. s.is j p (rw e at q) ∙ sym (same_quad m i (omega (arith, s.within l.formed)));
   step = λ y r p q w. at_step y r a g p (rw e at q) (rw e at w);
 }

@@ -9,9 +9,8 @@ use lib.ListN.{length}
 use Rattle.quadratic.specs.Quad.{quad}
 use Rattle.curve.specs.declared.Piece.{Piece}
 use Rattle.curve.specs.declared.Walk.{Walk}
-use Rattle.curve.specs.Pieces.{start_of, end_of, piece, Formed, Held, Passed}
-use Rattle.curve.specs.Lists.{start_next}
-use Rattle.curve.proofs.Laws.{At, Here, here, at_start, at_step, Seen}
+use Rattle.curve.specs.Pieces.{end_of, quad_at, piece, Formed, Held, Kept, Lent, Passed}
+use Rattle.curve.proofs.Laws.{At, Here, here, at_start, at_step, Seen, seen}
 
 -- w is a walk over the list at o
 pub record Walking (ws : List ℕ) (o L : ℕ) (w : Walk) : Type 0 where
@@ -30,6 +29,8 @@ seen_held {ws} {o} {L} {i} {x} l a h = record {
   room = omega (arith, s.within l.formed, l.room);
   from = s.from;
   to = s.to;
+  ends = refl;
+  there = refl;
   is = s.is;
   step = λ y r p q w. at_step y r a h p q w;
 }
@@ -37,16 +38,24 @@ seen_held {ws} {o} {L} {i} {x} l a h = record {
     s : Here ws o L i x
     s = here a h
 
+-- one that is read while the words at dst are written
+pub sees : {ws₀ ws : List ℕ} {o L dst len m : ℕ} {w : Walk} → Walking ws₀ o L w → Kept ws₀ ws dst m → m ≤ len → Lent ws₀ o dst len L → w.from < L → Seen ws₀ ws o L w.index w.from
+sees w k h l g = seen k h l w.at g
+
 -- what a walk gives
 pub record Given (ws : List ℕ) (o L end : ℕ) (w w' : Walk) (p : Piece) : Type 0 where
   pub inside : p.from < end
   pub index : p.index ≡ w.index
   pub most : p.index < L
+  pub within : (f : Formed ws o L) → p.index < f.count
   pub begins : p.from ≡ w.from
   pub order : p.from ≤ p.to
   pub to : p.to < L
+  pub ends : p.to ≡ end_of ws o p.index
+  pub there : quad p.q ≡ quad_at ws (o + 4 * p.index)
   pub is : (j : ℕ) → p.from ≤ j → j ≤ p.to → piece ws o L j ≡ quad p.q
   pub after : w'.from ≡ p.to + 1
+  pub counts : w'.index ≡ p.index + 1
   pub walking : Walking ws o L w'
 
 module _ {ws₀ ws : List ℕ} {o L : ℕ} {w : Walk} (k : Walking ws₀ o L w) (s : w.from < L → Seen ws₀ ws o L w.index w.from) where
@@ -56,6 +65,7 @@ module _ {ws₀ ws : List ℕ} {o L : ℕ} {w : Walk} (k : Walking ws₀ o L w) 
       let t : Seen ws₀ ws o L w.index w.from = s (omega arith) in
       (rw k.list t.room, rw k.list (omega (arith, t.to)))
 
+  -- the next piece is one of the list's
   pub given : {end : ℕ} {w' : Walk} {p : Piece} → end ≤ L → Passed ws w w' end p → Given ws₀ o L end w w' p
   given {end} {w'} {p} g r = record {
     inside = omega (arith, r.inside, r.from);
@@ -64,8 +74,12 @@ module _ {ws₀ ws : List ℕ} {o L : ℕ} {w : Walk} (k : Walking ws₀ o L w) 
     begins = r.from;
     order = omega (arith, r.from, to, t.from);
     to = omega (arith, to, t.to);
+    within = λ f. omega (arith, r.index, t.within f);
+    ends = rw r.index (to ∙ t.ends);
+    there = rw r.index (rw k.list at r.is ∙ t.there);
     is = λ j u v. t.is j (omega (arith, r.from)) (omega (arith, to)) ∙ sym (rw k.list at r.is);
     after = ap (λ (x : Walk). x.from) r.next;
+    counts = omega (arith, ap (λ (x : Walk). x.index) r.next, r.index);
     walking = subst (Walking ws₀ o L) (sym r.next) (record {
       list = k.list;
       most = omega (arith, to, t.to);

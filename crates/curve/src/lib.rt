@@ -214,16 +214,10 @@ pub fn add_loss(ws: &mut [u64], f: usize, u: u64, w: u64, dst: usize, grid: Grid
     requires by_index { (j : ℕ) → j < grid.levels → Sized (piece ws.old f grid.levels j) }
     ensures { Made (λ (j : ℕ). pushed w u (piece ws.old f grid.levels j)) ws.old ws.new dst grid.levels }
 {
-    let mut i: usize = 0;
-    let mut x: u64 = 0;
-    while x < grid.levels {
-        let at = f + 4 * i;
-        let e = ws[at];
-        let p = load(ws, at);
-        let q = quadratic::add_square(p, u, w);
-        store(ws, dst + 4 * i, e, q);
-        i += 1;
-        x = e + 1;
+    let mut pieces = Walk::over(f);
+    while let Some(piece) = pieces.next(ws, grid.levels) {
+        let q = quadratic::add_square(piece.q, u, w);
+        store(ws, dst + 4 * piece.index, piece.to, q);
     }
 }
 
@@ -256,17 +250,11 @@ pub fn shift(ws: &mut [u64], f: usize, gap: u64, dst: usize, grid: Grid)
         return;
     }
     let mut n = constant_to(ws, dst, 0, 0, gap, Rank::NONE);
-    let mut i: usize = 0;
-    let mut x: u64 = 0;
-    while x + gap < grid.levels {
-        let at = f + 4 * i;
-        let e = ws[at];
-        let p = load(ws, at);
-        let q = quadratic::shift(p, gap);
-        let y = e.min(grid.levels - 1 - gap);
+    let mut pieces = Walk::over(f);
+    while let Some(piece) = pieces.next(ws, grid.levels - gap) {
+        let q = quadratic::shift(piece.q, gap);
+        let y = piece.to.min(grid.levels - 1 - gap);
         n = append(ws, dst, n, y + gap, q);
-        i = next(i, e, y);
-        x = y + 1;
     }
 }
 
@@ -291,18 +279,16 @@ pub fn mirror(ws: &mut [u64], f: usize, dst: usize, grid: Grid)
     requires by_index { (j : ℕ) → j < grid.levels → Turnable (2 * grid.base + (grid.levels - 1)) (piece ws.old f grid.levels j) }
     ensures { Made (mirror_of (2 * grid.base + (grid.levels - 1)) grid.levels (piece ws.old f grid.levels)) ws.old ws.new dst grid.levels }
 {
-    let mut n = count(ws, f, grid.levels);
-    let mut i: usize = 0;
-    let mut x: u64 = 0;
-    while x < grid.levels {
-        n -= 1;
-        let at = f + 4 * i;
-        let e = ws[at];
-        let p = load(ws, at);
-        let q = quadratic::mirror(p, 2 * grid.base + (grid.levels - 1));
-        store(ws, dst + 4 * n, grid.levels - 1 - x, q);
-        i += 1;
-        x = e + 1;
+    let n = count(ws, f, grid.levels);
+    let mut pieces = Walk::over(f);
+    while let Some(piece) = pieces.next(ws, grid.levels) {
+        let q = quadratic::mirror(piece.q, 2 * grid.base + (grid.levels - 1));
+        store(
+            ws,
+            dst + 4 * (n - 1 - piece.index),
+            grid.levels - 1 - piece.from,
+            q,
+        );
     }
 }
 
@@ -390,15 +376,9 @@ pub fn running_min(ws: &mut [u64], f: usize, dst: usize, grid: Grid)
         n: 0,
         best: Low::NOWHERE.rank,
     };
-    let mut i: usize = 0;
-    let mut x: u64 = 0;
-    while x < grid.levels {
-        let at = f + 4 * i;
-        let e = ws[at];
-        let p = load(ws, at);
-        run = running_min_on(ws, dst, run, p, x, e, grid.base);
-        i += 1;
-        x = e + 1;
+    let mut pieces = Walk::over(f);
+    while let Some(piece) = pieces.next(ws, grid.levels) {
+        run = running_min_on(ws, dst, run, piece.q, piece.from, piece.to, grid.base);
     }
 }
 
@@ -431,17 +411,11 @@ pub fn least_in(ws: &[u64], f: usize, from: u64, to: u64, grid: Grid) -> Low
     ensures { LeastIn (costs grid.base (piece ws.now f grid.levels)) from to result }
 {
     let mut best = Low::NOWHERE;
-    let mut i: usize = 0;
-    let mut x: u64 = 0;
-    while x <= to {
-        let at = f + 4 * i;
-        let e = ws[at];
-        let p = load(ws, at);
-        let a = x.max(from);
-        let b = e.min(to);
-        best = lower(best, p, a, b, grid.base);
-        i += 1;
-        x = e + 1;
+    let mut pieces = Walk::over(f);
+    while let Some(piece) = pieces.next(ws, to + 1) {
+        let a = piece.from.max(from);
+        let b = piece.to.min(to);
+        best = lower(best, piece.q, a, b, grid.base);
     }
     best
 }

@@ -1,9 +1,8 @@
 -- `curve::two_least`: the two least so far, piece by piece. Assumes nothing.
-use mathlib.Core.Path.{◌≡◌, sym, ap, subst}
+use mathlib.Core.Path.{ap}
 use Prim.Native.Nat.{◌+◌}
 use native.Mathlib.Omega.{arith}
 use Rattle.quadratic.specs.Quad.{Quad, quad, value}
-use Rattle.curve.specs.Lows.{costs, TwoLeast}
 use Rattle.curve.specs.Pieces.{piece}
 use Rattle.curve.proofs.Walks.{Given, given, walking_none, walk_room, seen_held}
 use Rattle.curve.proofs.Prefix.{fine_on, fine_most}
