@@ -521,10 +521,8 @@ pub fn copy(ws: &mut [u64], f: usize, dst: usize, levels: u64) -> usize
     ensures { Copied ws.old ws.new f dst levels result }
 {
     let n = count(ws, f, levels);
-    let mut i: usize = 0;
-    while i < 4 * n {
+    for i in 0..4 * n {
         ws[dst + i] = ws[f + i];
-        i += 1;
     }
     n
 }
