@@ -34,15 +34,6 @@ room : (c : In-Some) → (c.in-Some.piece.index < 262144) × (c.args.dst + 4 * c
 room c = let g = got c in let i = c.loop-piece.invariant.1 in let n = i.count (omega arith) in
     (omega (arith, g.most, c.args.grid.within), omega (arith, n, g.index, g.begins, g.inside, i.kept.size, c.requires.lent.1))
 
-pub overflow_mul-piece : goal.overflow_mul-piece
-overflow_mul-piece c = omega (arith, room (goal.at.overflow_mul-piece c).In-Some)
-
-pub overflow_add-dst : goal.overflow_add-dst
-overflow_add-dst c = omega (arith, room (goal.at.overflow_add-dst c).In-Some)
-
-pub store-requires : goal.store-requires
-store-requires c = (room (goal.at.store-requires c).In-Some).1
-
 pub loop-piece-smaller : goal.loop-piece-smaller
 loop-piece-smaller c = let g = got (goal.at.loop-piece-smaller c).In-Some in omega (arith, g.after, g.begins, g.order, g.inside)
 
@@ -51,9 +42,6 @@ loop-piece-preserved c =
     let g = got (goal.at.loop-piece-preserved c).In-Some in
     let before : Emits (λ (j : ℕ). pushed c.args.w c.args.u (piece c.args.ws.now c.args.f c.args.grid.levels j)) c.args.ws.now c.loop-piece.ws c.args.dst 0 0 c.in-Some.piece.from c.in-Some.piece.index = rw (g.index, g.begins) c.loop-piece.invariant.1 in
     (g.walking, rw (g.after, g.counts) (emits_append (omega arith) (omega arith) g.order before (appended_new _ _ _ _ _ _ c.store.ensures) (λ j p q. c.add_square-q.ensures ∙ ap (pushed c.args.w c.args.u) (sym (g.is j p q)))))
-
-pub shape_of-ws : goal.shape_of-ws
-shape_of-ws c = c.loop-piece.invariant.1.kept.size
 
 pub returns : goal.returns
 returns c = let e : c.loop-piece.pieces.from ≡ c.args.grid.levels = omega (arith, c.in_default.ensures, c.loop-piece.invariant.0.most) in made (rw e at c.loop-piece.invariant.1)

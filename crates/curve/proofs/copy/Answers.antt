@@ -8,9 +8,6 @@ use Rattle.curve.proofs.Laws.{copying_none, copying_more, copied_is}
 use Rattle.curve.proofs.copy.Goals.{After-count-n}
 use Rattle.curve.proofs.copy.Goals as goal
 
-pub count-n-requires : goal.count-n-requires
-count-n-requires c = (record { formed = c.requires.0.formed; room = c.requires.0.room }, c.requires.1)
-
 -- how many there are
 counted : (c : After-count-n) → c.count-n.result ≡ c.requires.0.formed.count
 counted c = count_is c.count-n.ensures c.requires.0.formed

@@ -12,9 +12,6 @@ use Rattle.curve.proofs.Walks.{Given, given, walking_none, walk_room, sees}
 use Rattle.curve.proofs.mirror.Goals.{At-loop-piece, In-Some}
 use Rattle.curve.proofs.mirror.Goals as goal
 
-pub count-n-requires : goal.count-n-requires
-count-n-requires c = (record { formed = c.requires.lent.0.formed; room = c.requires.lent.0.room }, omega (arith, c.args.grid.within))
-
 pub loop-piece-init : goal.loop-piece-init
 loop-piece-init c = rw c.over-pieces.ensures (walking_none c.requires.lent.0.formed, turning_none _ _ c.count-n.ensures)
 
@@ -40,15 +37,6 @@ room c =
     let h : c.in-Some.piece.index < c.count-n.result = omega (arith, m.0, (got c).within c.requires.lent.0.formed) in
     ((h, omega (arith, m.1, c.args.grid.within)), omega (arith, m.1, c.requires.lent.1, c.loop-piece.invariant.1.turned.kept.size))
 
-pub overflow_mul-grid : goal.overflow_mul-grid
-overflow_mul-grid c = omega (arith, c.args.grid.within)
-
-pub overflow_sub-grid : goal.overflow_sub-grid
-overflow_sub-grid c = let g = got (goal.at.overflow_sub-grid c).In-Some in omega (arith, g.inside)
-
-pub overflow_add-grid : goal.overflow_add-grid
-overflow_add-grid c = omega (arith, c.args.grid.within)
-
 pub mirror-q-requires : goal.mirror-q-requires
 mirror-q-requires c =
     let g = got (goal.at.mirror-q-requires c).In-Some in
@@ -73,9 +61,6 @@ loop-piece-preserved c =
     let h = room (goal.at.loop-piece-preserved c).In-Some in
     let before : Turning (2 * c.args.grid.base + (c.args.grid.levels - 1)) c.args.grid.levels c.args.ws.now c.loop-piece.ws c.args.f c.args.dst c.count-n.result c.in-Some.piece.index c.in-Some.piece.from = rw (g.index, g.begins) c.loop-piece.invariant.1 in
     (g.walking, rw (g.after, g.counts) (turning_more before h.0.0 c.store.ensures (c.mirror-q.ensures ∙ ap (mirrored (2 * c.args.grid.base + (c.args.grid.levels - 1))) g.there) (ap (λ (x : ℕ). x + 1) (sym g.ends))))
-
-pub shape_of-ws : goal.shape_of-ws
-shape_of-ws c = c.loop-piece.invariant.1.turned.kept.size
 
 pub returns : goal.returns
 returns c = turned_all c.loop-piece.invariant.1 c.in_default.ensures.0

@@ -52,8 +52,5 @@ loop-piece-preserved c =
     let o = c.running_min_on-run.ensures.on (piece c.args.ws.now c.args.f c.args.grid.levels) g.is least in
     ((g.walking, (rw g.after o.1, c.running_min_on-run.ensures.changes)), rw g.after (emits_then (omega arith) (omega (arith, g.order)) before o.0))
 
-pub shape_of-ws : goal.shape_of-ws
-shape_of-ws c = c.loop-piece.invariant.1.kept.size
-
 pub returns : goal.returns
 returns c = let e : c.loop-piece.pieces.from ≡ c.args.grid.levels = omega (arith, c.in_default.ensures, c.loop-piece.invariant.0.0.most) in made (rw e at c.loop-piece.invariant.1)

@@ -10,14 +10,8 @@ use Rattle.curve.proofs.Walks.{Given, given, walking_none, walk_room, sees}
 use Rattle.curve.proofs.shift.Goals.{After-constant_to-n, At-loop-piece, In-Some}
 use Rattle.curve.proofs.shift.Goals as goal
 
-pub constant_to-requires : goal.constant_to-requires
-constant_to-requires c = omega arith
-
 pub returns-then-grid-gap : goal.returns-then-grid-gap
 returns-then-grid-gap c = made (emits_as (λ j u v. shift_none c.args.gap j (piece c.args.ws.now c.args.f c.args.grid.levels) (omega arith)) c.constant_to.ensures)
-
-pub constant_to-n-requires : goal.constant_to-n-requires
-constant_to-n-requires c = omega arith
 
 -- the list that is read, after none was written
 lent : (c : After-constant_to-n) → Lent c.constant_to-n.new.ws c.args.f c.args.dst (4 * c.args.grid.levels) c.args.grid.levels
@@ -42,12 +36,6 @@ shift-q-requires c =
     let e = lent_piece c.constant_to-n.ensures.kept (omega (arith, c.constant_to-n.ensures.count (omega arith))) c.requires.lent.0 c.in-Some.piece.from (omega (arith, g.inside)) in
     (small (subst Sized (sym e ∙ g.is c.in-Some.piece.from (omega arith) g.order) (c.requires.by_index c.in-Some.piece.from (omega (arith, g.inside)))), c.requires.gap_bound)
 
-pub append-n-requires : goal.append-n-requires
-append-n-requires c =
-    let g = got (goal.at.append-n-requires c).In-Some in
-    let i = c.loop-piece.invariant.1 in
-    omega (arith, g.inside, g.begins, i.count (c.constant_to-n.ensures.count (omega arith)), i.kept.size, c.constant_to-n.ensures.kept.size, c.requires.lent)
-
 pub loop-piece-smaller : goal.loop-piece-smaller
 loop-piece-smaller c = let g = got (goal.at.loop-piece-smaller c).In-Some in omega (arith, g.after, g.begins, g.order, g.inside)
 
@@ -62,9 +50,6 @@ loop-piece-preserved c =
       rw e at (emits_append (c.constant_to-n.ensures.count (omega arith)) (omega arith) (omega (arith, g.order, g.inside, c.min-y.ensures)) before c.append-n.ensures
           (λ j p q. c.shift-q.ensures ∙ shift_moved c.args.gap j (piece c.constant_to-n.new.ws c.args.f c.args.grid.levels) _ (omega arith) (g.is (j - c.args.gap) (omega arith) (omega (arith, m.0.0))))),
     )
-
-pub shape_of-ws : goal.shape_of-ws
-shape_of-ws c = c.loop-piece.invariant.1.kept.size ∙ c.constant_to-n.ensures.kept.size
 
 pub returns : goal.returns
 returns c = let e : min c.loop-piece.pieces.from (c.args.grid.levels - c.args.gap) + c.args.gap ≡ c.args.grid.levels = omega (arith, c.in_default.ensures) in

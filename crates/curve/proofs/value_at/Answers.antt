@@ -65,9 +65,6 @@ overflow_add-f-2 c = omega (arith, room c.requires.held c.loop-i.invariant c.req
 pub load-p-requires : goal.load-p-requires
 load-p-requires c = room c.requires.held c.loop-i.invariant c.requires.j_lt_levels
 
-pub overflow_add-grid : goal.overflow_add-grid
-overflow_add-grid c = omega (arith, c.args.grid.within, c.requires.j_lt_levels)
-
 -- the piece is in range
 whole : (c : After-load-p) → Small (quad c.load-p.result) × ((v : ℕ) → c.args.grid.base + c.args.j ≤ v → v ≤ c.args.grid.base + c.args.j → down (quad c.load-p.result) v ≤ up (quad c.load-p.result) v)
 whole c =
