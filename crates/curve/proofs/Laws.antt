@@ -2,7 +2,7 @@
 use mathlib.Core.Path.{◌≡◌, refl, sym, ap, ◌∙◌, subst}
 use mathlib.Core.Logic.{◌⊎◌, inl, inr, ⊎_elim}
 use mathlib.Core.List.{List, ◌++◌}
-use Prim.Native.Nat.{ℕ, ◌+◌, ◌*◌, ◌-◌, ◌≤◌, ◌<◌}
+use Prim.Native.Nat.{ℕ, ◌+◌, ◌*◌, ◌-◌, ◌≤◌, ◌<◌, min, max}
 use native.Mathlib.Omega.{arith}
 use lib.ListN.{length, get_or, set, take, drop, length-set, length-drop, get_or-append}
 use lib.Seq.{paste, get_or-set_same, get_or-set_other, get_or-take, get_or-drop, get_or-append-add, length-take-le, length-paste, length_paste_head, ext_get_or}
@@ -15,6 +15,13 @@ use Rattle.quadratic.specs.declared.Packed.{Packed}
 use Rattle.quadratic.specs.Quad.{Quad, quad, Small, Sized, Stays, Under, up, down, pick, late, better, raised, none, flat, absent, moved}
 use Rattle.curve.specs.Pieces.{end_of, start_of, quad_at, piece, Formed, Built, Is, Kept, Same, Stored, Appended, Emits, Lent, shift_of, Yields}
 use Rattle.curve.specs.Lists.{last_or, start_next, start_zero, count_le, end_lt, piece_at, same_quad, built_put, built_longer, kept_same, kept_refl, kept_then, kept_wider, kept_lent, same_end, opened, count_same, emits_none, emits_append}
+
+-- ---- the less and the greater of two numbers are among them
+pub min_is : (r e h : ℕ) → r ≡ min e h → ((r ≤ e) × (r ≤ h)) × ((r ≡ e) ⊎ (r ≡ h))
+min_is r e h q = ((omega arith, omega arith), ⊎_elim (λ g. inl (omega arith)) (λ g. inr (omega arith)) (le_or_lt e h))
+
+pub max_is : (r e h : ℕ) → r ≡ max e h → ((e ≤ r) × (h ≤ r)) × ((r ≡ e) ⊎ (r ≡ h))
+max_is r e h q = ((omega arith, omega arith), ⊎_elim (λ g. inr (omega arith)) (λ g. inl (omega arith)) (le_or_lt e h))
 
 pub set_kept : (ws : List ℕ) (i v : ℕ) → Kept ws (set ws i v) i 1
 set_kept ws i v = record { size = simp length-set; before = λ j h. get_or-set_other ws i j v 0 (λ e. omega arith); after = λ j h. get_or-set_other ws i j v 0 (λ e. omega arith) }
@@ -200,6 +207,8 @@ pub record Seen (ws₀ ws : List ℕ) (o L i x : ℕ) : Type 0 where
   pub room : o + 4 * i + 4 ≤ length ws
   pub from : x ≤ end_of ws o i
   pub to : end_of ws o i < L
+  pub ends : end_of ws o i ≡ end_of ws₀ o i
+  pub there : quad_at ws (o + 4 * i) ≡ quad_at ws₀ (o + 4 * i)
   pub is : (j : ℕ) → x ≤ j → j ≤ end_of ws o i → piece ws₀ o L j ≡ quad_at ws (o + 4 * i)
   pub step : (y r : ℕ) → x ≤ y → y ≤ end_of ws o i → ((end_of ws o i ≡ y) × (r ≡ i + 1)) ⊎ ((end_of ws o i ≡ y → ⊥) × (r ≡ i)) → At ws₀ o L r (y + 1)
 
@@ -210,6 +219,8 @@ seen {ws₀} {ws} {dst} {len} {o} {L} {i} {x} k h l a g = record {
   room = omega (arith, k.size, l.room, s.within l.formed);
   from = rw e s.from;
   to = rw e s.to;
+  ends = e;
+  there = same_quad m i (omega (arith, s.within l.formed));
   is = λ j p q. s.is j p (rw e at q) ∙ sym (same_quad m i (omega (arith, s.within l.formed)));
   step = λ y r p q w. at_step y r a g p (rw e at q) (rw e at w);
 }

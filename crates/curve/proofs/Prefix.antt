@@ -8,11 +8,12 @@ use Rattle.integers.specs.Rep.{le_or_lt}
 use Rattle.integers.specs.Pairs.{lex}
 use Rattle.quadratic.specs.Fine.{value_most, fine_sized, late_is}
 use Rattle.quadratic.specs.Quad.{Quad, up, down, cost, value, flat, no_value, late, Small, Sized, Lowest, Stays, Under, Over, Fine, count_limit, cost_limit}
+use Rattle.quadratic.specs.declared.Rank.{Rank}
 use Rattle.curve.specs.declared.Low.{Low}
 use Rattle.curve.specs.Pieces.{Emits, Appended}
 use Rattle.curve.specs.Lists.{emits_append, emits_then, emits_as}
 use Rattle.curve.proofs.Laws.{small}
-use Rattle.curve.specs.Lows.{top, top_cost, low_of, no_low, costs, levelled_is, Least, LeastIn, Drops, Lowered, lowest, prefix_of, lowest_new, lowest_stays, lowest_falls, prefix_new, prefix_old}
+use Rattle.curve.specs.Lows.{top, top_cost, rank_of, low_of, no_low, costs, levelled_is, Least, LeastIn, Drops, Lowered, lowest, prefix_of, lowest_new, lowest_stays, lowest_falls, prefix_new, prefix_old}
 
 pub drops_crossed : (p : Quad) (best a v base r : ℕ) → a ≤ v → Over (flat best 0) p (base + v) → Stays (flat best 0) p (base + a) (base + v) r → Drops p best a v base (r - base + 1)
 drops_crossed p best a v base r h o t = record {
@@ -83,21 +84,21 @@ module _ (p : Quad) (base a e v w : ℕ) (whole : (u : ℕ) → base + a ≤ u �
         more : (i : ℕ) → a ≤ i → i ≤ e → lex x k ≤ costs base F i
         more i c d = omega (arith, here i c d, at_least i c d)
 
-    -- less from s on, down to v; then v's, a cost y with p's changes
-    pub prefix_falls : {ws w1 w2 ws' : List ℕ} {dst n n1 n2 r : ℕ} (x k y s : ℕ) → k ≤ count_limit → p.k ≤ count_limit → w ≡ lex y p.k → n ≤ a → v ≤ e → Drops p (x + late k p.k) a v base s → lowest (costs base F) a ≡ lex x k
-        → Emits (λ (j : ℕ). flat x k) ws w1 dst n a s n1 → Appended w1 w2 dst n1 v p n2 → Emits (λ (j : ℕ). flat y p.k) w2 ws' dst n2 (v + 1) (e + 1) r
-        → Emits (prefix_of base F) ws ws' dst n a (e + 1) r × (lowest (costs base F) (e + 1) ≡ lex y p.k)
-    prefix_falls x k y s hk hp wy hn hv d z m1 m2 m3 = (
+    -- less from s on, down to v; then v's, a cost y with p's changes m
+    pub prefix_falls : {ws w1 w2 ws' : List ℕ} {dst n n1 n2 r : ℕ} (x k y m s : ℕ) → m ≡ p.k → k ≤ count_limit → m ≤ count_limit → w ≡ lex y m → n ≤ a → v ≤ e → Drops p (x + late k m) a v base s → lowest (costs base F) a ≡ lex x k
+        → Emits (λ (j : ℕ). flat x k) ws w1 dst n a s n1 → Appended w1 w2 dst n1 v p n2 → Emits (λ (j : ℕ). flat y m) w2 ws' dst n2 (v + 1) (e + 1) r
+        → Emits (prefix_of base F) ws ws' dst n a (e + 1) r × (lowest (costs base F) (e + 1) ≡ lex y m)
+    prefix_falls x k y m s em hk hm wy hn hv d z m1 m2 m3 = (
       emits_then (omega (arith, d.low, d.high)) (omega arith)
           (emits_append hn d.low d.high
           (emits_as (λ j u t. flat_old x k j hk (flat_at a (lex x k) j (omega arith) z (λ i c g. over i c (omega arith)) u) (over j u t)) m1)
           m2 (λ j u t. sym (prefix_new base F j (new j u t) ∙ f j (omega (arith, d.low)) (omega arith))))
-          (emits_as (λ j u t. flat_old y p.k j hp (flat_at (v + 1) (lex y p.k) j (omega (arith, d.low, d.high)) after (λ i c g. rest i c (omega arith)) u) (rest j u (omega arith))) m3),
-      flat_at (v + 1) (lex y p.k) (e + 1) (omega (arith, d.low, d.high)) after (λ i c g. rest i c (omega arith)) (omega arith),
+          (emits_as (λ j u t. flat_old y m j hm (flat_at (v + 1) (lex y m) j (omega (arith, d.low, d.high)) after (λ i c g. rest i c (omega arith)) u) (rest j u (omega arith))) m3),
+      flat_at (v + 1) (lex y m) (e + 1) (omega (arith, d.low, d.high)) after (λ i c g. rest i c (omega arith)) (omega arith),
     )
       where
-        order : (i : ℕ) → (x + late k p.k ≤ cost p (base + i) → lex x k ≤ value p (base + i)) × (cost p (base + i) < x + late k p.k → value p (base + i) < lex x k)
-        order i = late_is x k (cost p (base + i)) p.k (omega arith) (omega arith)
+        order : (i : ℕ) → (x + late k m ≤ cost p (base + i) → lex x k ≤ value p (base + i)) × (cost p (base + i) < x + late k m → value p (base + i) < lex x k)
+        order i = let o = late_is x k (cost p (base + i)) m (omega arith) (omega arith) in (λ h. omega (arith, o.0 h), λ h. omega (arith, o.1 h))
 
         over : (i : ℕ) → a ≤ i → i < s → lex x k ≤ costs base F i
         over i c g =
@@ -117,25 +118,25 @@ module _ (p : Quad) (base a e v w : ℕ) (whole : (u : ℕ) → base + a ≤ u �
             (lowest_falls (costs base F) s first (j - s)
             (λ i c g. omega (arith, here i (omega (arith, d.low)) (omega arith), here (i + 1) (omega (arith, d.low)) (omega arith), goes_down i (omega (arith, d.low)) (omega arith))))
 
-        after : lowest (costs base F) (v + 1) ≡ lex y p.k
+        after : lowest (costs base F) (v + 1) ≡ lex y m
         after = lowest_new (costs base F) v (new v d.high (omega arith)) ∙ here v (omega (arith, d.low, d.high)) hv ∙ sym ew ∙ wy
 
-        rest : (i : ℕ) → v + 1 ≤ i → i ≤ e → lex y p.k ≤ costs base F i
+        rest : (i : ℕ) → v + 1 ≤ i → i ≤ e → lex y m ≤ costs base F i
         rest i c g = omega (arith, wy, here i (omega (arith, d.low, d.high)) g, at_least i (omega (arith, d.low, d.high)) g)
 
 -- ---- the least on a range
-pub lowered_empty : (best : Low) (p : Quad) (a b base : ℕ) → best.changes ≤ count_limit → b < a → Lowered best p a b base best
+pub lowered_empty : (best : Low) (p : Quad) (a b base : ℕ) → best.rank.changes ≤ count_limit → b < a → Lowered best p a b base best
 lowered_empty best p a b base k h = record { least = λ m u t. absurd (omega arith); is = inl refl; changes = k }
 
 module _ (best : Low) (p : Quad) (a b base v w : ℕ) (whole : (u : ℕ) → base + a ≤ u → u ≤ base + b → down p u ≤ up p u) (l : Lowest p (base + a) (base + b) v) (ew : w ≡ value p v) where
-  pub lowered_new : (y : ℕ) → y ≡ cost p v → p.k ≤ count_limit → lex y p.k < low_of best → Lowered best p a b base (record { value = y; changes = p.k; level = v - base })
-  lowered_new y ey k h = record {
-    least = λ m u t. omega (arith, ey, ew, at_most p a b base v w whole l ew m u t);
-    is = inr ((omega (arith, l.low), omega (arith, l.low, l.high)), (ap (λ (x : ℕ). lex x p.k) ey ∙ sym ew ∙ at_level p a b base v w whole l ew, (h, λ m u t. omega (arith, ey, l.first (base + m) (omega arith) (omega (arith, l.low)), l.high, whole (base + m) (omega arith) (omega (arith, l.low, l.high)), whole v l.low l.high))));
+  pub lowered_new : (r : Rank) → rank_of r ≡ w → r.changes ≤ count_limit → rank_of r < low_of best → Lowered best p a b base (record { rank = r; level = v - base })
+  lowered_new r er k h = record {
+    least = λ m u t. omega (arith, er, at_most p a b base v w whole l ew m u t);
+    is = inr ((omega (arith, l.low), omega (arith, l.low, l.high)), (er ∙ at_level p a b base v w whole l ew, (h, λ m u t. omega (arith, er, ew, l.first (base + m) (omega arith) (omega (arith, l.low)), l.high, whole (base + m) (omega arith) (omega (arith, l.low, l.high)), whole v l.low l.high))));
     changes = k;
   }
 
-  pub lowered_old : best.changes ≤ count_limit → low_of best ≤ w → Lowered best p a b base best
+  pub lowered_old : best.rank.changes ≤ count_limit → low_of best ≤ w → Lowered best p a b base best
   lowered_old k h = record { least = λ m u t. omega (arith, at_most p a b base v w whole l ew m u t); is = inl refl; changes = k }
 
 -- best is the least of G at those levels of [from, to] that are below x
@@ -143,8 +144,8 @@ pub record Till (G : ℕ → ℕ) (from to x : ℕ) (best : Low) : Type 0 where
   pub least : (m : ℕ) → from ≤ m → m ≤ to → m < x → low_of best ≤ G m
   pub first : (m : ℕ) → from ≤ m → m ≤ to → m < x → m < best.level → low_of best < G m
   pub is : (best ≡ no_low) ⊎ (((from ≤ best.level) × (best.level ≤ to)) × ((best.level < x) × (low_of best ≡ G best.level)))
-  pub changes : best.changes ≤ count_limit
-  pub high : best.value ≤ top_cost
+  pub changes : best.rank.changes ≤ count_limit
+  pub high : best.rank.value ≤ top_cost
 
 pub till_none : (G : ℕ → ℕ) (from to : ℕ) → Till G from to 0 no_low
 till_none G from to = record { least = λ m u t h. absurd (omega arith); first = λ m u t h. absurd (omega arith); is = inl refl; changes = omega arith; high = omega arith }

@@ -6,16 +6,16 @@ use Prim.Native.Nat.{ℕ, ◌+◌, ◌-◌, ◌≤◌, ◌<◌}
 use native.Mathlib.Omega.{arith}
 use borrow.Author.Tests.{eq-eqb, ne_eqb}
 use Rattle.integers.specs.Rep.{le_or_lt}
-use Rattle.quadratic.specs.Quad.{Quad, up, down, cost, value, flat, none, no_value, Lowest, AtMost, Less, count_limit}
+use Rattle.quadratic.specs.Quad.{Quad, up, down, value, flat, none, no_value, Lowest, AtMost, Less, count_limit}
 use Rattle.quadratic.proofs.Laws.{rises_after, falls_before}
-use Rattle.curve.specs.declared.Rank.{Rank}
+use Rattle.quadratic.specs.declared.Rank.{Rank}
 use Rattle.curve.specs.declared.Two.{Two}
 use Rattle.curve.specs.Pieces.{Emits, Made, constant_but}
 use Rattle.curve.specs.Lists.{emits_then, emits_as, made}
 use Rattle.curve.specs.Lows.{rank_of, least_of, second_of, Beside, TwoLeast, LessAt}
 use Rattle.curve.proofs.Prefix.{at_most, at_level}
 
-pub two_none : (G : ℕ → ℕ) → TwoLeast G 0 (record { value = none; changes = 0; level = 0; second = none; secondchanges = 0 })
+pub two_none : (G : ℕ → ℕ) → TwoLeast G 0 (record { least = record { rank = record { value = none; changes = 0 }; level = 0 }; second = record { value = none; changes = 0 } })
 two_none G = record { least = λ m h. absurd (omega arith); first = λ m h. absurd (omega arith); is = inl (omega arith, refl); others = λ m h. absurd (omega arith); second = inl (omega arith); changes = omega arith; second_changes = omega arith }
 
 -- ---- one piece more: p on [a, e], whose least value is w at the place v
@@ -28,7 +28,7 @@ module _ (best : Two) (p : Quad) (a e base v w : ℕ) (whole : (u : ℕ) → bas
 
   -- w is not less than the least so far
   pub two_kept : (s : Rank) → s.changes ≤ count_limit → least_of best ≤ w → (rank_of s ≤ second_of best) × (rank_of s ≤ w) → (rank_of s ≡ second_of best) ⊎ (rank_of s ≡ w)
-      → TwoLeast G (e + 1) (record { value = best.value; changes = best.changes; level = best.level; second = s.value; secondchanges = s.changes })
+      → TwoLeast G (e + 1) (record { least = best.least; second = s })
   two_kept s ks h k f = record {
     least = λ m y. ⊎_elim (λ x. omega (arith, low m x y)) (λ x. t.least m x) (le_or_lt a m);
     first = t.first;
@@ -39,25 +39,25 @@ module _ (best : Two) (p : Quad) (a e base v w : ℕ) (whole : (u : ℕ) → bas
     second_changes = ks;
   }
     where
-      old : rank_of s ≡ second_of best → (rank_of s ≡ no_value) ⊎ Beside G (e + 1) best.level (rank_of s)
+      old : rank_of s ≡ second_of best → (rank_of s ≡ no_value) ⊎ Beside G (e + 1) best.least.level (rank_of s)
       old q = ⊎_elim (λ c. inl (q ∙ c)) (λ b. inr (record { at = b.at; inside = omega (arith, b.inside, l.low, l.high); other = b.other; is = q ∙ b.is })) t.second
 
-      new : rank_of s ≡ w → (rank_of s ≡ no_value) ⊎ Beside G (e + 1) best.level (rank_of s)
+      new : rank_of s ≡ w → (rank_of s ≡ no_value) ⊎ Beside G (e + 1) best.least.level (rank_of s)
       new q = ⊎_elim
           (λ c. inl (omega (arith, c.0, here, (g (v - base) (omega (arith, l.low)) (omega (arith, l.high))).1)))
           (λ c. inr (record { at = v - base; inside = omega (arith, l.high); other = λ x. omega (arith, c.0, l.low); is = q ∙ here }))
           t.is
 
   -- w is less: the levels beside it and the least so far are left
-  pub two_new : (y : ℕ) (b s s' : Rank) → y ≡ cost p v → p.k ≤ count_limit → rank_of b ≡ least_of best → 0 < base → w < least_of best → LessAt b p (v - 1) (base + a) (base + e) s → LessAt s p (v + 1) (base + a) (base + e) s'
-      → TwoLeast G (e + 1) (record { value = y; changes = p.k; level = v - base; second = s'.value; secondchanges = s'.changes })
-  two_new y b s s' ey kp eb pb h f k = record {
-    least = λ m z. ⊎_elim (λ x. omega (arith, ey, ew, low m x z)) (λ x. omega (arith, ey, ew, t.least m x)) (le_or_lt a m);
-    first = λ m z. ⊎_elim (λ x. omega (arith, ey, ew, above m x z)) (λ x. omega (arith, ey, ew, t.least m x)) (le_or_lt a m);
-    is = inr (omega (arith, l.low, l.high), omega (arith, ey, ew, here));
+  pub two_new : (r b s s' : Rank) → rank_of r ≡ w → r.changes ≤ count_limit → rank_of b ≡ least_of best → 0 < base → w < least_of best → LessAt b p (v - 1) (base + a) (base + e) s → LessAt s p (v + 1) (base + a) (base + e) s'
+      → TwoLeast G (e + 1) (record { least = record { rank = r; level = v - base }; second = s' })
+  two_new r b s s' er kr eb pb h f k = record {
+    least = λ m z. ⊎_elim (λ x. omega (arith, er, low m x z)) (λ x. omega (arith, er, t.least m x)) (le_or_lt a m);
+    first = λ m z. ⊎_elim (λ x. omega (arith, er, above m x z)) (λ x. omega (arith, er, t.least m x)) (le_or_lt a m);
+    is = inr (omega (arith, l.low, l.high), omega (arith, er, here));
     others = λ m z n. ⊎_elim (λ x. beside m x (omega arith) n) (λ x. omega (arith, eb, t.least m x, f.low, k.low)) (le_or_lt a m);
     second = ⊎_elim (λ q. ⊎_elim (λ r. old (q ∙ r ∙ eb)) (λ r. inr (one (v - 1) (omega (arith, l.low)) r.0 (q ∙ r.1))) f.is) (λ q. inr (one (v + 1) (omega arith) q.0 q.1)) k.is;
-    changes = kp;
+    changes = kr;
     second_changes = k.changes;
   }
     where
@@ -90,17 +90,17 @@ module _ (best : Two) (p : Quad) (a e base v w : ℕ) (whole : (u : ℕ) → bas
           record { at = u - base; inside = omega arith; other = λ x. n (omega (arith, l.low)); is = y ∙ sym (g (u - base) (omega arith) (omega arith)).0 }
 
       old : rank_of s' ≡ least_of best → (rank_of s' ≡ no_value) ⊎ Beside G (e + 1) (v - base) (rank_of s')
-      old q = ⊎_elim (λ c. inl (q ∙ c.0)) (λ c. inr (record { at = best.level; inside = omega (arith, c.0, l.low, l.high); other = λ x. omega (arith, c.0, l.low); is = q ∙ c.1 })) t.is
+      old q = ⊎_elim (λ c. inl (q ∙ c.0)) (λ c. inr (record { at = best.least.level; inside = omega (arith, c.0, l.low, l.high); other = λ x. omega (arith, c.0, l.low); is = q ∙ c.1 })) t.is
 
 -- ---- a constant with one level aside
-but_off : (two : Two) (j : ℕ) → (j ≡ two.level → ⊥) → flat two.value two.changes ≡ constant_but two j
-but_off two j n = rw (ne_eqb j two.level n)
+but_off : (two : Two) (j : ℕ) → (j ≡ two.least.level → ⊥) → flat two.least.rank.value two.least.rank.changes ≡ constant_but two j
+but_off two j n = rw (ne_eqb j two.least.level n)
 
-but_at : (two : Two) (j : ℕ) → j ≡ two.level → flat two.second two.secondchanges ≡ constant_but two j
-but_at two j e = rw (eq-eqb j two.level e)
+but_at : (two : Two) (j : ℕ) → j ≡ two.least.level → flat two.second.value two.second.changes ≡ constant_but two j
+but_at two j e = rw (eq-eqb j two.least.level e)
 
-pub constant_but_lem : {ws w1 w2 w3 : List ℕ} {dst L n1 n2 n3 : ℕ} (two : Two) → two.level < L → Emits (λ (j : ℕ). flat two.value two.changes) ws w1 dst 0 0 two.level n1
-    → Emits (λ (j : ℕ). flat two.second two.secondchanges) w1 w2 dst n1 two.level (two.level + 1) n2 → Emits (λ (j : ℕ). flat two.value two.changes) w2 w3 dst n2 (two.level + 1) L n3 → Made (constant_but two) ws w3 dst L
+pub constant_but_lem : {ws w1 w2 w3 : List ℕ} {dst L n1 n2 n3 : ℕ} (two : Two) → two.least.level < L → Emits (λ (j : ℕ). flat two.least.rank.value two.least.rank.changes) ws w1 dst 0 0 two.least.level n1
+    → Emits (λ (j : ℕ). flat two.second.value two.second.changes) w1 w2 dst n1 two.least.level (two.least.level + 1) n2 → Emits (λ (j : ℕ). flat two.least.rank.value two.least.rank.changes) w2 w3 dst n2 (two.least.level + 1) L n3 → Made (constant_but two) ws w3 dst L
 constant_but_lem two h m1 m2 m3 = made
     (emits_then (omega arith) (omega arith)
     (emits_then (omega arith) (omega arith)

@@ -7,9 +7,9 @@ use native.Mathlib.Omega.{arith}
 use native.Mathlib.Decide.{dec_lt}
 use Rattle.integers.specs.Rep.{le_or_lt}
 use Rattle.quadratic.specs.Quad.{Quad, mirrored}
-use Rattle.curve.specs.Pieces.{end_of, start_of, quad_at, piece, Formed, Built, Is, Kept, Same, Stored, Made, Lent, mirror_of}
-use Rattle.curve.specs.Lists.{start_next, start_zero, end_lt, piece_at, kept_refl, kept_then, kept_wider, kept_lent, same_end, same_quad, count_most_lem, count_is, formed, closed}
-use Rattle.curve.proofs.Laws.{At, Seen, seen, start_pos}
+use Rattle.curve.specs.Pieces.{end_of, start_of, quad_at, piece, Formed, Built, Is, Kept, Stored, Made, mirror_of}
+use Rattle.curve.specs.Lists.{start_next, start_zero, end_lt, piece_at, kept_refl, kept_then, kept_wider, count_most_lem, formed, closed}
+use Rattle.curve.proofs.Laws.{start_pos}
 
 -- the first r pieces of the list at f stand mirrored as the last r of the m at dst
 pub record Turned (s L : ℕ) (ws ws' : List ℕ) (f dst m r : ℕ) : Type 0 where
@@ -80,58 +80,30 @@ module _ {s L : ℕ} {ws ws' : List ℕ} {f dst : ℕ} (l : Formed ws f L) (t : 
   pub turned_made : Made (mirror_of s L (piece ws f L)) ws ws' dst L
   turned_made = record { kept = kept_wider dst (4 * L) t.kept (omega arith) (omega (arith, count_most_lem l)); formed = formed turned; is = closed turned }
 
--- ---- on the way: the next piece is the ith, which begins at x, and n are left
+-- ---- on the way: the next piece of the m is the ith, which begins at x
 
-pub record Turning (s L : ℕ) (ws ws' : List ℕ) (f dst m n i x : ℕ) : Type 0 where
+pub record Turning (s L : ℕ) (ws ws' : List ℕ) (f dst m i x : ℕ) : Type 0 where
   pub whole : Built (Is (piece ws f L)) ws f m L
   pub begins : x ≡ start_of ws f i
-  pub left : n + i ≡ m
+  pub most : i ≤ m
   pub turned : Turned s L ws ws' f dst m i
 
-pub turning_none : {L : ℕ} {ws : List ℕ} {f m : ℕ} (s dst : ℕ) → Built (Is (piece ws f L)) ws f m L → Turning s L ws ws f dst m m 0 0
-turning_none {L} {ws} {f} {m} s dst b = record { whole = b; begins = sym (start_zero ws f); left = omega arith; turned = turned_none s L ws f dst m }
+pub turning_none : {L : ℕ} {ws : List ℕ} {f m : ℕ} (s dst : ℕ) → Built (Is (piece ws f L)) ws f m L → Turning s L ws ws f dst m 0 0
+turning_none {L} {ws} {f} {m} s dst b = record { whole = b; begins = sym (start_zero ws f); most = omega arith; turned = turned_none s L ws f dst m }
 
--- what the next piece is
-pub record NextPiece (s L : ℕ) (ws ws' : List ℕ) (f dst m n i x : ℕ) : Type 0 where
-  pub inside : i < m
-  pub most : m ≤ L
-  pub seen : Seen ws ws' f L i x
-  pub more : {ws'' : List ℕ} {q : Quad} → Stored ws' ws'' (dst + 4 * (n - 1)) (L - 1 - x) q → q ≡ mirrored s (quad_at ws' (f + 4 * i)) → Turning s L ws ws'' f dst m (n - 1) (i + 1) (end_of ws' f i + 1)
-
-pub next_piece : {s L : ℕ} {ws ws' : List ℕ} {f dst m n i x : ℕ} → Lent ws f dst (4 * L) L → Turning s L ws ws' f dst m n i x → x < L → NextPiece s L ws ws' f dst m n i x
-next_piece {s} {L} {ws} {ws'} {f} {dst} {m} {n} {i} {x} l t h = record {
-  inside = inside;
-  most = most;
-  seen = here;
-  more = λ w e. record {
-    whole = t.whole;
-    begins = ap (λ (y : ℕ). y + 1) (same_end kept i (omega (arith, same, inside))) ∙ sym (start_next ws f i);
-    left = omega (arith, t.left, inside);
-    turned = turned_more (n - 1) i x (omega (arith, t.left, inside)) t.turned w t.begins (e ∙ ap (mirrored s) (same_quad kept i (omega (arith, same, inside))));
-  };
+-- the next piece
+pub turning_more : {s L : ℕ} {ws ws' ws'' : List ℕ} {f dst m i x e : ℕ} {q : Quad} → Turning s L ws ws' f dst m i x → i < m → Stored ws' ws'' (dst + 4 * (m - 1 - i)) (L - 1 - x) q
+    → q ≡ mirrored s (quad_at ws (f + 4 * i)) → end_of ws f i + 1 ≡ e → Turning s L ws ws'' f dst m (i + 1) e
+turning_more {f = f} {m = m} {i} {x} t h w e g = record {
+  whole = t.whole;
+  begins = sym g ∙ sym (start_next _ f i);
+  most = omega arith;
+  turned = turned_more (m - 1 - i) i x (omega arith) t.turned w t.begins e;
 }
-  where
-    same : m ≡ l.formed.count
-    same = count_is t.whole l.formed
 
-    most : m ≤ L
-    most = omega (arith, same, count_most_lem l.formed)
-
-    at : At ws f L i x
-    at = record { formed = l.formed; inside = omega (arith, t.left, same); low = omega (arith, t.begins); high = λ u. omega (arith, t.begins, l.formed.rising i u) }
-
-    here : Seen ws ws' f L i x
-    here = seen t.turned.kept (omega (arith, most)) l at h
-
-    inside : i < m
-    inside = omega (arith, same, here.within l.formed)
-
-    kept : Same ws ws' f (4 * l.formed.count)
-    kept = kept_lent t.turned.kept (omega (arith, most)) l
-
-pub turned_all : {s L : ℕ} {ws ws' : List ℕ} {f dst m n i x : ℕ} → Turning s L ws ws' f dst m n i x → L ≤ x → Made (mirror_of s L (piece ws f L)) ws ws' dst L
-turned_all {s} {L} {ws} {ws'} {f} {dst} {m} {n} {i} {x} t h =
+pub turned_all : {s L : ℕ} {ws ws' : List ℕ} {f dst m i x : ℕ} → Turning s L ws ws' f dst m i x → L ≤ x → Made (mirror_of s L (piece ws f L)) ws ws' dst L
+turned_all {s} {L} {ws} {ws'} {f} {dst} {m} {i} {x} t h =
     turned_made (record { count = m; ends = t.whole.ends; rising = t.whole.rising }) (subst (λ (r : ℕ). Turned s L ws ws' f dst m r) all t.turned)
   where
     all : i ≡ m
-    all = ⊎_elim (λ p. omega (arith, t.left)) (λ p. absurd (omega (arith, t.begins, t.whole.rising i p, end_lt ws f m t.whole.rising i m p (omega arith), t.whole.ends))) (le_or_lt m i)
+    all = ⊎_elim (λ p. omega (arith, t.most)) (λ p. absurd (omega (arith, t.begins, t.whole.rising i p, end_lt ws f m t.whole.rising i m p (omega arith), t.whole.ends))) (le_or_lt m i)

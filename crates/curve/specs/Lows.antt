@@ -5,7 +5,7 @@ use Rattle.integers.specs.Rep.{le_or_lt}
 use Rattle.integers.specs.Pairs.{unit, lex, first_is, second_is}
 use Rattle.quadratic.specs.Fine.{pick_n}
 use Rattle.quadratic.specs.Quad.{Quad, value, no_value, flat, pick, Under, Over, count_limit}
-use Rattle.curve.specs.declared.Rank.{Rank}
+use Rattle.quadratic.specs.declared.Rank.{Rank}
 use Rattle.curve.specs.declared.Low.{Low}
 use Rattle.curve.specs.declared.Run.{Run}
 use Rattle.curve.specs.declared.Two.{Two}
@@ -23,16 +23,16 @@ abbrev pub rank_of : Rank → ℕ
 rank_of r = lex r.value r.changes
 
 abbrev pub low_of : Low → ℕ
-low_of r = lex r.value r.changes
+low_of r = rank_of r.rank
 
 abbrev pub best_of : Run → ℕ
-best_of r = lex r.best r.changes
+best_of r = rank_of r.best
 
 abbrev pub least_of : Two → ℕ
-least_of r = lex r.value r.changes
+least_of r = low_of r.least
 
 abbrev pub second_of : Two → ℕ
-second_of r = lex r.second r.secondchanges
+second_of r = rank_of r.second
 
 -- the quadratic that has a value everywhere
 abbrev pub levelled : ℕ → Quad
@@ -52,14 +52,14 @@ pub record Least (G : ℕ → ℕ) (from to : ℕ) (r : Low) : Type 0 where
 
 -- what stands for the least where there is no level: more than any, at level 0
 abbrev pub no_low : Low
-no_low = record { value = top_cost; changes = 0; level = 0 }
+no_low = record { rank = record { value = top_cost; changes = 0 }; level = 0 }
 
 -- the same on a range that may be empty
 pub record LeastIn (G : ℕ → ℕ) (from to : ℕ) (r : Low) : Type 0 where
   pub some : from ≤ to → Least G from to r
   pub empty : to < from → r ≡ no_low
-  pub changes : r.changes ≤ count_limit
-  pub high : r.value ≤ top_cost
+  pub changes : r.rank.changes ≤ count_limit
+  pub high : r.rank.value ≤ top_cost
 
 -- the least of G at the levels below j, and top where there are none
 unfoldable pub lowest : (ℕ → ℕ) → ℕ → ℕ
@@ -80,13 +80,13 @@ pub record Drops (p : Quad) (best a v base r : ℕ) : Type 0 where
 -- the pieces of the least so far at the levels from a to e, where p is in force
 pub record Prefixed (ws ws' : List ℕ) (dst base a e : ℕ) (p : Quad) (run r : Run) : Type 0 where
   pub on : (F : ℕ → Quad) → ((j : ℕ) → a ≤ j → j ≤ e → F j ≡ p) → lowest (costs base F) a ≡ best_of run → Emits (prefix_of base F) ws ws' dst run.n a (e + 1) r.n × (lowest (costs base F) (e + 1) ≡ best_of r)
-  pub changes : r.changes ≤ count_limit
+  pub changes : r.best.changes ≤ count_limit
 
 -- r is best, or p's least on [a, b], at its lowest level, where that is less
 pub record Lowered (best : Low) (p : Quad) (a b base : ℕ) (r : Low) : Type 0 where
   pub least : (m : ℕ) → a ≤ m → m ≤ b → low_of r ≤ value p (base + m)
   pub is : (r ≡ best) ⊎ (((a ≤ r.level) × (r.level ≤ b)) × ((low_of r ≡ value p (base + r.level)) × ((low_of r < low_of best) × ((m : ℕ) → a ≤ m → m < r.level → low_of r < value p (base + m)))))
-  pub changes : r.changes ≤ count_limit
+  pub changes : r.rank.changes ≤ count_limit
 
 -- x is G's at a level below L that is not i
 pub record Beside (G : ℕ → ℕ) (L i x : ℕ) : Type 0 where
@@ -99,12 +99,12 @@ pub record Beside (G : ℕ → ℕ) (L i x : ℕ) : Type 0 where
 -- other
 pub record TwoLeast (G : ℕ → ℕ) (L : ℕ) (r : Two) : Type 0 where
   pub least : (m : ℕ) → m < L → least_of r ≤ G m
-  pub first : (m : ℕ) → m < r.level → least_of r < G m
-  pub is : ((least_of r ≡ no_value) × (r.level ≡ 0)) ⊎ ((r.level < L) × (least_of r ≡ G r.level))
-  pub others : (m : ℕ) → m < L → (m ≡ r.level → ⊥) → second_of r ≤ G m
-  pub second : (second_of r ≡ no_value) ⊎ Beside G L r.level (second_of r)
-  pub changes : r.changes ≤ count_limit
-  pub second_changes : r.secondchanges ≤ count_limit
+  pub first : (m : ℕ) → m < r.least.level → least_of r < G m
+  pub is : ((least_of r ≡ no_value) × (r.least.level ≡ 0)) ⊎ ((r.least.level < L) × (least_of r ≡ G r.least.level))
+  pub others : (m : ℕ) → m < L → (m ≡ r.least.level → ⊥) → second_of r ≤ G m
+  pub second : (second_of r ≡ no_value) ⊎ Beside G L r.least.level (second_of r)
+  pub changes : r.least.rank.changes ≤ count_limit
+  pub second_changes : r.second.changes ≤ count_limit
 
 -- best is of the levels below a, r of those up to e, and from a on p is in force
 pub record TwoLowered (best : Two) (p : Quad) (a e base : ℕ) (r : Two) : Type 0 where

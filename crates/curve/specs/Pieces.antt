@@ -4,6 +4,8 @@ use Rattle.std.specs.Prelude.{◌≡◌, ◌⊎◌, Bool, false, cond, List, ℕ
 use Rattle.std.proofs.Math.Seq.{paste}
 use Rattle.quadratic.specs.Fine.{pick_n}
 use Rattle.quadratic.specs.Quad.{Quad, quad, Sized, pick, flat, absent, none, moved, mirrored, better}
+use Rattle.curve.specs.declared.Piece.{Piece}
+use Rattle.curve.specs.declared.Walk.{Walk}
 use Rattle.curve.specs.declared.Two.{Two}
 
 -- the last level of the kth piece of the list at o, and its first
@@ -29,6 +31,15 @@ piece ws o L j = quad_at ws (seek L ws o j)
 -- whether the list at o is one piece, none
 unfoldable pub none_only : List ℕ → ℕ → ℕ → Bool
 none_only ws o L = cond (eqb (get_or ws o 0 + 1) L) (eqb (get_or ws (o + 3) 0) none) false
+
+-- p is the piece to which a walk w has come, it begins below the level end, and w' is the walk past it
+pub record Passed (ws : List ℕ) (w w' : Walk) (end : ℕ) (p : Piece) : Type 0 where
+  pub inside : w.from < end
+  pub index : p.index ≡ w.index
+  pub from : p.from ≡ w.from
+  pub to : p.to ≡ end_of ws w.list w.index
+  pub is : quad p.q ≡ quad_at ws (w.list + 4 * w.index)
+  pub next : w' ≡ record { list = w.list; index = w.index + 1; from = p.to + 1 }
 
 -- there is a list over L levels at o
 pub record Formed (ws : List ℕ) (o L : ℕ) : Type 0 where
@@ -110,7 +121,7 @@ mirror_of s L F j = mirrored s (F (L - 1 - j))
 
 -- the least at every level but the one that has it, where it is the other of two
 abbrev pub constant_but : Two → ℕ → Quad
-constant_but two j = pick (eqb j two.level) (flat two.second two.secondchanges) (flat two.value two.changes)
+constant_but two j = pick (eqb j two.least.level) (flat two.second.value two.second.changes) (flat two.least.rank.value two.least.rank.changes)
 
 -- it may be mirrored
 pub record Turnable (s : ℕ) (q : Quad) : Type 0 where

@@ -12,12 +12,16 @@
 // `curve_sized`, ..) and say what each result costs at each level (`curve_least`, `curve_shift`, ..).
 #![tactic(auto)]
 
-ghost use Rattle.std.specs.Prelude.{◌≡◌, true, false, ◌⊎◌, ℕ, ◌+◌, ◌*◌, ◌-◌, ◌≤◌, ◌<◌, length, get_or};
+ghost use Rattle.std.specs.Prelude.{◌≡◌, true, false, ◌⊎◌, ℕ, ◌+◌, ◌*◌, ◌-◌, ◌≤◌, ◌<◌, length, get_or, MatchOption};
 ghost use Rattle.quadratic.specs.Quad.{quad, Small, Sized, Fine, raised, pushed, moved, mirrored, better, value, flat, none, up, down, Under, Over, Stays, count_limit, cost_limit};
 ghost use Rattle.curve.specs.Lows.{rank_of, LeastIn, TwoLeast, TwoLowered, LessAt, Drops, Prefixed, Lowered, prefix_of, costs, lowest};
-ghost use Rattle.curve.specs.Pieces.{Yields, none_only, quad_at, Kept, Built, Is, Formed, piece, Stored, Appended, Emits, Made, Apart, Held, Lent, Copyable, Copied, shift_of, mirror_of, constant_but, Turnable};
+ghost use Rattle.curve.specs.Pieces.{end_of, Passed, Yields, none_only, quad_at, Kept, Built, Is, Formed, piece, Stored, Appended, Emits, Made, Apart, Held, Lent, Copyable, Copied, shift_of, mirror_of, constant_but, Turnable};
 
+mod levels;
+
+pub use levels::Grid;
 use quadratic::Packed;
+pub use quadratic::Rank;
 
 // The piece at a place, without its end.
 fn load(ws: &[u64], at: usize) -> Packed
@@ -28,6 +32,56 @@ fn load(ws: &[u64], at: usize) -> Packed
         w: ws[at + 1],
         z: ws[at + 2],
         c: ws[at + 3],
+    }
+}
+
+// A piece: how many stand before it, its first and its last level, and its quadratic.
+#[derive(Clone, Copy)]
+struct Piece {
+    index: usize,
+    from: u64,
+    to: u64,
+    q: Packed,
+}
+
+// How far a walk over the pieces of a list has come: so many are passed, and the next one begins at the level `from`. It borrows no word and so is no
+// iterator of the library: the list that is read lies in the slice that is written.
+#[derive(Clone, Copy)]
+struct Walk {
+    list: usize,
+    index: usize,
+    from: u64,
+}
+
+impl Walk {
+    fn over(list: usize) -> Walk
+        ensures { result ≡ record { list = list; index = 0; from = 0 } }
+    {
+        Walk {
+            list,
+            index: 0,
+            from: 0,
+        }
+    }
+
+    // The next piece, if it begins below the level `end`.
+    fn next(&mut self, ws: &[u64], end: u64) -> Option<Piece>
+        requires { self.old.from < end → (self.old.list + 4 * self.old.index + 4 ≤ length ws.now) × (end_of ws.now self.old.list self.old.index < 262144) }
+        ensures { MatchOption result ((end ≤ self.old.from) × (self.new ≡ self.old)) (λ p. Passed ws.now self.old self.new end p) }
+    {
+        if end <= self.from {
+            return None;
+        }
+        let at = self.list + 4 * self.index;
+        let piece = Piece {
+            index: self.index,
+            from: self.from,
+            to: ws[at],
+            q: load(ws, at),
+        };
+        self.index += 1;
+        self.from = piece.to + 1;
+        Some(piece)
     }
 }
 
@@ -42,21 +96,6 @@ fn store(ws: &mut [u64], at: usize, end: u64, q: Packed)
     ws[at + 3] = q.c;
 }
 
-// Whether two quadratics are the same. Where they differ c nearly always does: with c first the other tests are hardly reached, and
-// the processor predicts the one that is.
-fn same(p: Packed, q: Packed) -> bool
-    ensures { result ≡ true → quad p ≡ quad q }
-{
-    if p.c == q.c {
-        if p.w == q.w {
-            if p.z == q.z {
-                return true;
-            }
-        }
-    }
-    false
-}
-
 // One piece more after the n at dst, or the last one longer.
 fn append(ws: &mut [u64], dst: usize, n: usize, end: u64, q: Packed) -> usize
     requires { dst + 4 * (n + 1) ≤ length ws.old }
@@ -64,8 +103,8 @@ fn append(ws: &mut [u64], dst: usize, n: usize, end: u64, q: Packed) -> usize
 {
     if 0 < n {
         let back = dst + 4 * (n - 1);
-        let p = load(ws, back);
-        if same(p, q) {
+        let last = load(ws, back);
+        if last == q {
             ws[back] = end;
             return n;
         }
@@ -116,29 +155,17 @@ fn next_stretch(p: Packed, q: Packed, a: u64, y: u64, base: u64) -> Stretch
         return Stretch { winner: q, end: y };
     }
     let more = quadratic::more_changes(p.w / quadratic::CHANGE, q.w / quadratic::CHANGE);
-    let p1 = Packed {
-        w: p.w,
-        z: p.z,
-        c: p.c + more,
-    };
+    let p1 = Packed { c: p.c + more, ..p };
     if quadratic::under(p1, q, base + a) {
         let s = reach(p1, q, a, y, base);
         return Stretch { winner: p, end: s };
     }
     let q1 = Packed {
-        w: q.w,
-        z: q.z,
         c: q.c + 1 - more,
+        ..q
     };
     let t = reach(q1, p, a, y, base);
     Stretch { winner: q, end: t }
-}
-
-// The less of two numbers.
-fn lesser(e: u64, h: u64) -> u64
-    ensures { ((result ≤ e) × (result ≤ h)) × ((result ≡ e) ⊎ (result ≡ h)) }
-{
-    if e < h { e } else { h }
 }
 
 // The piece after the ith, where that ends at y.
@@ -151,28 +178,19 @@ fn next(i: usize, e: u64, y: u64) -> usize
 
 // dst: at each level the less of f's and of g's with pen and ch changes added. A turn for each stretch, which mostly is all of the levels that two pieces
 // share: a loop inside, over the stretches of two pieces, would take longer to begin than its one turn.
-pub fn least_of_two(
-    ws: &mut [u64],
-    f: usize,
-    g: usize,
-    pen: u64,
-    ch: u64,
-    dst: usize,
-    levels: u64,
-    base: u64,
-)
-    requires lent { Lent ws.old f dst (4 * levels) levels × (Lent ws.old g dst (4 * levels) levels × (dst + 4 * levels ≤ length ws.old)) }
-    requires pen_bound { ((pen ≤ 1152921504606846976) × (ch ≤ count_limit)) × (base + levels ≤ 262144) }
-    requires by_index { (j : ℕ) → j < levels → Sized (piece ws.old f levels j) }
-    requires by_index_2 { (j : ℕ) → j < levels → Sized (raised pen ch (piece ws.old g levels j)) }
-    requires by_index_3 { (j : ℕ) → j < levels → Yields (base + j) (piece ws.old f levels j) (raised pen ch (piece ws.old g levels j)) }
-    ensures { Made (λ (j : ℕ). better (base + j) (piece ws.old f levels j) (raised pen ch (piece ws.old g levels j))) ws.old ws.new dst levels }
+pub fn least_of_two(ws: &mut [u64], f: usize, g: usize, pen: u64, ch: u64, dst: usize, grid: Grid)
+    requires lent { Lent ws.old f dst (4 * grid.levels) grid.levels × (Lent ws.old g dst (4 * grid.levels) grid.levels × (dst + 4 * grid.levels ≤ length ws.old)) }
+    requires pen_bound { (pen ≤ 1152921504606846976) × (ch ≤ count_limit) }
+    requires by_index { (j : ℕ) → j < grid.levels → Sized (piece ws.old f grid.levels j) }
+    requires by_index_2 { (j : ℕ) → j < grid.levels → Sized (raised pen ch (piece ws.old g grid.levels j)) }
+    requires by_index_3 { (j : ℕ) → j < grid.levels → Yields (grid.base + j) (piece ws.old f grid.levels j) (raised pen ch (piece ws.old g grid.levels j)) }
+    ensures { Made (λ (j : ℕ). better (grid.base + j) (piece ws.old f grid.levels j) (raised pen ch (piece ws.old g grid.levels j))) ws.old ws.new dst grid.levels }
 {
     let mut i: usize = 0;
     let mut k: usize = 0;
     let mut n: usize = 0;
     let mut x: u64 = 0;
-    while x < levels {
+    while x < grid.levels {
         let at = f + 4 * i;
         let to = g + 4 * k;
         let e = ws[at];
@@ -180,8 +198,8 @@ pub fn least_of_two(
         let p = load(ws, at);
         let l = load(ws, to);
         let q = quadratic::raise(l, pen, ch);
-        let y = lesser(e, h);
-        let r = next_stretch(p, q, x, y, base);
+        let y = e.min(h);
+        let r = next_stretch(p, q, x, y, grid.base);
         n = append(ws, dst, n, r.end, r.winner);
         i = next(i, e, r.end);
         k = next(k, h, r.end);
@@ -190,35 +208,29 @@ pub fn least_of_two(
 }
 
 // dst: f with w times the square (u - v)² more at each level. Neighbours of f that differ still do, so that none are compared.
-pub fn add_loss(ws: &mut [u64], f: usize, u: u64, w: u64, dst: usize, levels: u64)
-    requires lent { Lent ws.old f dst (4 * levels) levels × (dst + 4 * levels ≤ length ws.old) }
-    requires u_bound { ((u < 262144) × (w < 256)) × (levels ≤ 262144) }
-    requires by_index { (j : ℕ) → j < levels → Sized (piece ws.old f levels j) }
-    ensures { Made (λ (j : ℕ). pushed w u (piece ws.old f levels j)) ws.old ws.new dst levels }
+pub fn add_loss(ws: &mut [u64], f: usize, u: u64, w: u64, dst: usize, grid: Grid)
+    requires lent { Lent ws.old f dst (4 * grid.levels) grid.levels × (dst + 4 * grid.levels ≤ length ws.old) }
+    requires u_bound { (u < 262144) × (w < 256) }
+    requires by_index { (j : ℕ) → j < grid.levels → Sized (piece ws.old f grid.levels j) }
+    ensures { Made (λ (j : ℕ). pushed w u (piece ws.old f grid.levels j)) ws.old ws.new dst grid.levels }
 {
-    let mut i: usize = 0;
-    let mut x: u64 = 0;
-    while x < levels {
-        let at = f + 4 * i;
-        let e = ws[at];
-        let p = load(ws, at);
-        let q = quadratic::add_square(p, u, w);
-        store(ws, dst + 4 * i, e, q);
-        i += 1;
-        x = e + 1;
+    let mut pieces = Walk::over(f);
+    while let Some(piece) = pieces.next(ws, grid.levels) {
+        let q = quadratic::add_square(piece.q, u, w);
+        store(ws, dst + 4 * piece.index, piece.to, q);
     }
 }
 
-// c with k changes at the levels from x up to y, y not among them.
-fn constant_to(ws: &mut [u64], dst: usize, n: usize, x: u64, y: u64, c: u64, k: u64) -> usize
-    requires { ((n ≤ x) × (x ≤ y)) × ((dst + 4 * y ≤ length ws.old) × (k ≤ count_limit)) }
-    ensures { Emits (λ (j : ℕ). flat c k) ws.old ws.new dst n x y result }
+// One rank at the levels from x up to y, y not among them.
+fn constant_to(ws: &mut [u64], dst: usize, n: usize, x: u64, y: u64, rank: Rank) -> usize
+    requires { ((n ≤ x) × (x ≤ y)) × ((dst + 4 * y ≤ length ws.old) × (rank.changes ≤ count_limit)) }
+    ensures { Emits (λ (j : ℕ). flat rank.value rank.changes) ws.old ws.new dst n x y result }
 {
     if x < y {
         let q = Packed {
-            w: quadratic::CHANGE * k,
+            w: quadratic::CHANGE * rank.changes,
             z: 0,
-            c,
+            c: rank.value,
         };
         append(ws, dst, n, y - 1, q)
     } else {
@@ -227,28 +239,22 @@ fn constant_to(ws: &mut [u64], dst: usize, n: usize, x: u64, y: u64, c: u64, k: 
 }
 
 // dst: at each level f's of gap levels below; none where there is no such level.
-pub fn shift(ws: &mut [u64], f: usize, gap: u64, dst: usize, levels: u64)
-    requires lent { Lent ws.old f dst (4 * levels) levels × (dst + 4 * levels ≤ length ws.old) }
-    requires gap_bound { (gap < 1024) × (levels ≤ 262144) }
-    requires by_index { (j : ℕ) → j < levels → Sized (piece ws.old f levels j) }
-    ensures { Made (shift_of gap (piece ws.old f levels)) ws.old ws.new dst levels }
+pub fn shift(ws: &mut [u64], f: usize, gap: u64, dst: usize, grid: Grid)
+    requires lent { Lent ws.old f dst (4 * grid.levels) grid.levels × (dst + 4 * grid.levels ≤ length ws.old) }
+    requires gap_bound { gap < 1024 }
+    requires by_index { (j : ℕ) → j < grid.levels → Sized (piece ws.old f grid.levels j) }
+    ensures { Made (shift_of gap (piece ws.old f grid.levels)) ws.old ws.new dst grid.levels }
 {
-    if levels <= gap {
-        constant_to(ws, dst, 0, 0, levels, quadratic::NONE, 0);
+    if grid.levels <= gap {
+        constant_to(ws, dst, 0, 0, grid.levels, Rank::NONE);
         return;
     }
-    let mut n = constant_to(ws, dst, 0, 0, gap, quadratic::NONE, 0);
-    let mut i: usize = 0;
-    let mut x: u64 = 0;
-    while x + gap < levels {
-        let at = f + 4 * i;
-        let e = ws[at];
-        let p = load(ws, at);
-        let q = quadratic::shift(p, gap);
-        let y = lesser(e, levels - 1 - gap);
+    let mut n = constant_to(ws, dst, 0, 0, gap, Rank::NONE);
+    let mut pieces = Walk::over(f);
+    while let Some(piece) = pieces.next(ws, grid.levels - gap) {
+        let q = quadratic::shift(piece.q, gap);
+        let y = piece.to.min(grid.levels - 1 - gap);
         n = append(ws, dst, n, y + gap, q);
-        i = next(i, e, y);
-        x = y + 1;
     }
 }
 
@@ -257,59 +263,58 @@ pub fn count(ws: &[u64], f: usize, levels: u64) -> usize
     requires { Held ws.now f levels × (levels ≤ 262144) }
     ensures { Built (Is (piece ws.now f levels)) ws.now f result levels }
 {
-    let mut i: usize = 0;
-    let mut x: u64 = 0;
-    while x < levels {
-        x = ws[f + 4 * i] + 1;
-        i += 1;
+    let mut pieces = Walk::over(f);
+    let mut n: usize = 0;
+    while let Some(_) = pieces.next(ws, levels) {
+        n += 1;
     }
-    i
+    n
 }
 
 // dst: f from its last level to its first, its pieces read in their order and written from the last place to the first. Neighbours of f that
 // differ still do, so that none are compared.
-pub fn mirror(ws: &mut [u64], f: usize, dst: usize, levels: u64, base: u64)
-    requires lent { Lent ws.old f dst (4 * levels) levels × (dst + 4 * levels ≤ length ws.old) }
-    requires le_base { (131072 ≤ base) × (base + levels ≤ 262144) }
-    requires by_index { (j : ℕ) → j < levels → Turnable (2 * base + (levels - 1)) (piece ws.old f levels j) }
-    ensures { Made (mirror_of (2 * base + (levels - 1)) levels (piece ws.old f levels)) ws.old ws.new dst levels }
+pub fn mirror(ws: &mut [u64], f: usize, dst: usize, grid: Grid)
+    requires lent { Lent ws.old f dst (4 * grid.levels) grid.levels × (dst + 4 * grid.levels ≤ length ws.old) }
+    requires le_base { 131072 ≤ grid.base }
+    requires by_index { (j : ℕ) → j < grid.levels → Turnable (2 * grid.base + (grid.levels - 1)) (piece ws.old f grid.levels j) }
+    ensures { Made (mirror_of (2 * grid.base + (grid.levels - 1)) grid.levels (piece ws.old f grid.levels)) ws.old ws.new dst grid.levels }
 {
-    let mut n = count(ws, f, levels);
-    let mut i: usize = 0;
-    let mut x: u64 = 0;
-    while x < levels {
-        n -= 1;
-        let at = f + 4 * i;
-        let e = ws[at];
-        let p = load(ws, at);
-        let q = quadratic::mirror(p, 2 * base + (levels - 1));
-        store(ws, dst + 4 * n, levels - 1 - x, q);
-        i += 1;
-        x = e + 1;
+    let n = count(ws, f, grid.levels);
+    let mut pieces = Walk::over(f);
+    while let Some(piece) = pieces.next(ws, grid.levels) {
+        let q = quadratic::mirror(piece.q, 2 * grid.base + (grid.levels - 1));
+        store(
+            ws,
+            dst + 4 * (n - 1 - piece.index),
+            grid.levels - 1 - piece.from,
+            q,
+        );
     }
 }
 
-// A cost and a number of changes. The one that comes first is the less of two.
-#[derive(Clone, Copy)]
-pub struct Rank {
-    pub value: u64,
-    pub changes: u64,
-}
-
 // A cost with its changes, and a level that has it.
-#[derive(Clone, Copy)]
+#[derive(Clone, Copy, PartialEq, Eq)]
 pub struct Low {
-    pub value: u64,
-    pub changes: u64,
+    pub rank: Rank,
     pub level: u64,
 }
 
-// How many pieces there are, and the least so far: its cost and its changes.
+impl Low {
+    // Where there is no level: more than none.
+    pub const NOWHERE: Low = Low {
+        rank: Rank {
+            value: quadratic::NONE + 1,
+            changes: 0,
+        },
+        level: 0,
+    };
+}
+
+// How many pieces there are, and the least so far.
 #[derive(Clone, Copy)]
 struct Run {
-    pub n: usize,
-    pub best: u64,
-    pub changes: u64,
+    n: usize,
+    best: Rank,
 }
 
 // The first level of [a, v] at which p costs less than best. It is so at v, and p falls up to there. Many pieces have one level: nothing is looked for there.
@@ -338,83 +343,59 @@ fn first_below(p: Packed, best: u64, a: u64, v: u64, base: u64) -> u64
 // has fewer changes.
 fn running_min_on(ws: &mut [u64], dst: usize, run: Run, p: Packed, a: u64, e: u64, base: u64) -> Run
     requires small { Small (quad p) × ((v : ℕ) → base + a ≤ v → v ≤ base + e → down (quad p) v ≤ up (quad p) v) }
-    requires n_le_a { ((run.n ≤ a) × (a ≤ e)) × ((base + e < 262144) × ((run.best ≤ 1152921504606846977) × (run.changes ≤ count_limit))) }
+    requires n_le_a { ((run.n ≤ a) × (a ≤ e)) × ((base + e < 262144) × ((run.best.value ≤ 1152921504606846977) × (run.best.changes ≤ count_limit))) }
     requires e_in_bounds { dst + 4 * (e + 1) ≤ length ws.old }
     ensures { Prefixed ws.old ws.new dst base a e (quad p) run result }
 {
     let n = run.n;
     let best = run.best;
-    let changes = run.changes;
-    let k = p.w / quadratic::CHANGE;
     let v = quadratic::lowest_min(p, base + a, base + e) - base;
-    let w = quadratic::eval(p, base + v);
-    let limit = best + quadratic::more_changes(changes, k);
-    if limit <= w {
-        let all = constant_to(ws, dst, n, a, e + 1, best, changes);
-        return Run {
-            n: all,
-            best,
-            changes,
-        };
+    let least = quadratic::eval(p, base + v);
+    let limit = best.value + quadratic::more_changes(best.changes, least.changes);
+    if limit <= least.value {
+        let all = constant_to(ws, dst, n, a, e + 1, best);
+        return Run { n: all, best };
     }
     let s = first_below(p, limit, a, v, base);
-    let before = constant_to(ws, dst, n, a, s, best, changes);
+    let before = constant_to(ws, dst, n, a, s, best);
     let fallen = append(ws, dst, before, v, p);
-    let after = constant_to(ws, dst, fallen, v + 1, e + 1, w, k);
+    let after = constant_to(ws, dst, fallen, v + 1, e + 1, least);
     Run {
         n: after,
-        best: w,
-        changes: k,
+        best: least,
     }
 }
 
 // dst: at each level the least of f's at that level and at those below.
-pub fn running_min(ws: &mut [u64], f: usize, dst: usize, levels: u64, base: u64)
-    requires lent { Lent ws.old f dst (4 * levels) levels × (dst + 4 * levels ≤ length ws.old) }
-    requires levels_bound { base + levels ≤ 262144 }
-    requires by_index { (j : ℕ) → j < levels → Small (piece ws.old f levels j) × (down (piece ws.old f levels j) (base + j) ≤ up (piece ws.old f levels j) (base + j)) }
-    ensures { Made (prefix_of base (piece ws.old f levels)) ws.old ws.new dst levels }
+pub fn running_min(ws: &mut [u64], f: usize, dst: usize, grid: Grid)
+    requires lent { Lent ws.old f dst (4 * grid.levels) grid.levels × (dst + 4 * grid.levels ≤ length ws.old) }
+    requires by_index { (j : ℕ) → j < grid.levels → Small (piece ws.old f grid.levels j) × (down (piece ws.old f grid.levels j) (grid.base + j) ≤ up (piece ws.old f grid.levels j) (grid.base + j)) }
+    ensures { Made (prefix_of grid.base (piece ws.old f grid.levels)) ws.old ws.new dst grid.levels }
 {
     let mut run = Run {
         n: 0,
-        best: quadratic::NONE + 1,
-        changes: 0,
+        best: Low::NOWHERE.rank,
     };
-    let mut i: usize = 0;
-    let mut x: u64 = 0;
-    while x < levels {
-        let at = f + 4 * i;
-        let e = ws[at];
-        let p = load(ws, at);
-        run = running_min_on(ws, dst, run, p, x, e, base);
-        i += 1;
-        x = e + 1;
+    let mut pieces = Walk::over(f);
+    while let Some(piece) = pieces.next(ws, grid.levels) {
+        run = running_min_on(ws, dst, run, piece.q, piece.from, piece.to, grid.base);
     }
-}
-
-// The greater of two numbers.
-fn greater(e: u64, h: u64) -> u64
-    ensures { ((e ≤ result) × (h ≤ result)) × ((result ≡ e) ⊎ (result ≡ h)) }
-{
-    if e < h { h } else { e }
 }
 
 // The less of best and of the least of p on [a, b], which may be empty; best where they are equal.
 fn lower(best: Low, p: Packed, a: u64, b: u64, base: u64) -> Low
     requires small { Small (quad p) × ((v : ℕ) → base + a ≤ v → v ≤ base + b → down (quad p) v ≤ up (quad p) v) }
-    requires b_bound { (base + b < 262144) × (best.changes ≤ count_limit) }
+    requires b_bound { (base + b < 262144) × (best.rank.changes ≤ count_limit) }
     ensures { Lowered best (quad p) a b base result }
 {
     if b < a {
         return best;
     }
     let v = quadratic::lowest_min(p, base + a, base + b);
-    let w = quadratic::eval(p, v);
-    let changes = p.w / quadratic::CHANGE;
-    if quadratic::comes_first(w, changes, best.value, best.changes) {
+    let rank = quadratic::eval(p, v);
+    if quadratic::comes_first(rank, best.rank) {
         Low {
-            value: w,
-            changes,
+            rank,
             level: v - base,
         }
     } else {
@@ -423,40 +404,27 @@ fn lower(best: Low, p: Packed, a: u64, b: u64, base: u64) -> Low
 }
 
 // The least of f at the levels from .. to, and the lowest level that has it; more than none, at level 0, where there is no such level.
-pub fn least_in(ws: &[u64], f: usize, from: u64, to: u64, levels: u64, base: u64) -> Low
-    requires held { Held ws.now f levels × (base + levels ≤ 262144) }
-    requires to_lt_levels { to < levels }
-    requires by_index { (j : ℕ) → j < levels → Fine count_limit cost_limit (piece ws.now f levels j) (base + j) }
-    ensures { LeastIn (costs base (piece ws.now f levels)) from to result }
+pub fn least_in(ws: &[u64], f: usize, from: u64, to: u64, grid: Grid) -> Low
+    requires held { Held ws.now f grid.levels }
+    requires to_lt_levels { to < grid.levels }
+    requires by_index { (j : ℕ) → j < grid.levels → Fine count_limit cost_limit (piece ws.now f grid.levels j) (grid.base + j) }
+    ensures { LeastIn (costs grid.base (piece ws.now f grid.levels)) from to result }
 {
-    let mut best = Low {
-        value: quadratic::NONE + 1,
-        changes: 0,
-        level: 0,
-    };
-    let mut i: usize = 0;
-    let mut x: u64 = 0;
-    while x <= to {
-        let at = f + 4 * i;
-        let e = ws[at];
-        let p = load(ws, at);
-        let a = greater(x, from);
-        let b = lesser(e, to);
-        best = lower(best, p, a, b, base);
-        i += 1;
-        x = e + 1;
+    let mut best = Low::NOWHERE;
+    let mut pieces = Walk::over(f);
+    while let Some(piece) = pieces.next(ws, to + 1) {
+        let a = piece.from.max(from);
+        let b = piece.to.min(to);
+        best = lower(best, piece.q, a, b, grid.base);
     }
     best
 }
 
-// The least, the lowest level that has it, and the least at the other levels; each a cost with its changes.
-#[derive(Clone, Copy)]
+// The least at the lowest level that has it, and the least at the other levels.
+#[derive(Clone, Copy, PartialEq, Eq)]
 pub struct Two {
-    pub value: u64,
-    pub changes: u64,
-    pub level: u64,
-    pub second: u64,
-    pub secondchanges: u64,
+    pub least: Low,
+    pub second: Rank,
 }
 
 // The less of two, the first where they are equal.
@@ -464,11 +432,7 @@ fn lesser_rank(a: Rank, b: Rank) -> Rank
     requires { (a.changes ≤ count_limit) × ((b.changes ≤ count_limit) × (b.value ≤ 4611686018427387904)) }
     ensures { ((rank_of result ≤ rank_of a) × (rank_of result ≤ rank_of b)) × ((result ≡ a) ⊎ (result ≡ b)) }
 {
-    if quadratic::comes_first(b.value, b.changes, a.value, a.changes) {
-        b
-    } else {
-        a
-    }
+    if quadratic::comes_first(b, a) { b } else { a }
 }
 
 // The less of best and of p at v, where v lies in [x, y]; else best.
@@ -483,11 +447,7 @@ fn lesser_at(best: Rank, p: Packed, v: u64, x: u64, y: u64) -> Rank
     if y < v {
         return best;
     }
-    let w = quadratic::eval(p, v);
-    let here = Rank {
-        value: w,
-        changes: p.w / quadratic::CHANGE,
-    };
+    let here = quadratic::eval(p, v);
     lesser_rank(best, here)
 }
 
@@ -495,88 +455,64 @@ fn lesser_at(best: Rank, p: Packed, v: u64, x: u64, y: u64) -> Rank
 // that its next least value stands beside its least.
 fn lower_two(best: Two, p: Packed, a: u64, e: u64, base: u64) -> Two
     requires small { Small (quad p) × ((v : ℕ) → base + a ≤ v → v ≤ base + e → down (quad p) v ≤ up (quad p) v) }
-    requires a_le_e { (a ≤ e) × ((0 < base) × ((base + e < 262144) × ((best.changes ≤ count_limit) × (best.secondchanges ≤ count_limit)))) }
+    requires a_le_e { (a ≤ e) × ((0 < base) × ((base + e < 262144) × ((best.least.rank.changes ≤ count_limit) × (best.second.changes ≤ count_limit)))) }
     ensures { TwoLowered best (quad p) a e base result }
 {
     let v = quadratic::lowest_min(p, base + a, base + e);
-    let w = quadratic::eval(p, v);
-    let k = p.w / quadratic::CHANGE;
-    let least = Rank {
-        value: best.value,
-        changes: best.changes,
-    };
-    if quadratic::comes_first(w, k, best.value, best.changes) {
+    let here = quadratic::eval(p, v);
+    let least = best.least.rank;
+    if quadratic::comes_first(here, least) {
         let before = lesser_at(least, p, v - 1, base + a, base + e);
         let second = lesser_at(before, p, v + 1, base + a, base + e);
         return Two {
-            value: w,
-            changes: k,
-            level: v - base,
-            second: second.value,
-            secondchanges: second.changes,
+            least: Low {
+                rank: here,
+                level: v - base,
+            },
+            second,
         };
     }
-    let next = Rank {
-        value: best.second,
-        changes: best.secondchanges,
-    };
-    let here = Rank {
-        value: w,
-        changes: k,
-    };
-    let second = lesser_rank(next, here);
-    Two {
-        value: best.value,
-        changes: best.changes,
-        level: best.level,
-        second: second.value,
-        secondchanges: second.changes,
-    }
+    let second = lesser_rank(best.second, here);
+    Two { second, ..best }
 }
 
 // The least of f, the lowest level that has it, and the least at the other levels, in one pass; none where there is no other level.
-pub fn two_least(ws: &[u64], f: usize, levels: u64, base: u64) -> Two
-    requires held { Held ws.now f levels × ((0 < base) × (base + levels ≤ 262144)) }
-    requires by_index { (j : ℕ) → j < levels → Fine count_limit cost_limit (piece ws.now f levels j) (base + j) }
-    ensures { TwoLeast (costs base (piece ws.now f levels)) levels result }
+pub fn two_least(ws: &[u64], f: usize, grid: Grid) -> Two
+    requires held { Held ws.now f grid.levels × (0 < grid.base) }
+    requires by_index { (j : ℕ) → j < grid.levels → Fine count_limit cost_limit (piece ws.now f grid.levels j) (grid.base + j) }
+    ensures { TwoLeast (costs grid.base (piece ws.now f grid.levels)) grid.levels result }
 {
     let mut best = Two {
-        value: quadratic::NONE,
-        changes: 0,
-        level: 0,
-        second: quadratic::NONE,
-        secondchanges: 0,
+        least: Low {
+            rank: Rank::NONE,
+            level: 0,
+        },
+        second: Rank::NONE,
     };
-    let mut i: usize = 0;
-    let mut x: u64 = 0;
-    while x < levels {
-        let at = f + 4 * i;
-        let e = ws[at];
-        let p = load(ws, at);
-        best = lower_two(best, p, x, e, base);
-        i += 1;
-        x = e + 1;
+    let mut pieces = Walk::over(f);
+    while let Some(piece) = pieces.next(ws, grid.levels) {
+        best = lower_two(best, piece.q, piece.from, piece.to, grid.base);
     }
     best
 }
 
-// dst: c with k changes at every level.
-pub fn constant(ws: &mut [u64], dst: usize, levels: u64, c: u64, k: u64)
-    requires { (dst + 4 * levels ≤ length ws.old) × (k ≤ count_limit) }
-    ensures { Made (λ (j : ℕ). flat c k) ws.old ws.new dst levels }
+// dst: one rank at every level.
+pub fn constant(ws: &mut [u64], dst: usize, levels: u64, rank: Rank)
+    requires { (dst + 4 * levels ≤ length ws.old) × (rank.changes ≤ count_limit) }
+    ensures { Made (λ (j : ℕ). flat rank.value rank.changes) ws.old ws.new dst levels }
 {
-    constant_to(ws, dst, 0, 0, levels, c, k);
+    constant_to(ws, dst, 0, 0, levels, rank);
 }
 
 // dst: the least of two at every level but the one that has it, where it is the other.
 pub fn constant_but(ws: &mut [u64], dst: usize, levels: u64, two: Two)
-    requires { ((dst + 4 * levels ≤ length ws.old) × (two.level < levels)) × ((two.changes ≤ count_limit) × (two.secondchanges ≤ count_limit)) }
+    requires { ((dst + 4 * levels ≤ length ws.old) × (two.least.level < levels)) × ((two.least.rank.changes ≤ count_limit) × (two.second.changes ≤ count_limit)) }
     ensures { Made (constant_but two) ws.old ws.new dst levels }
 {
-    let at = two.level;
-    let below = constant_to(ws, dst, 0, 0, at, two.value, two.changes);
-    let here = constant_to(ws, dst, below, at, at + 1, two.second, two.secondchanges);
-    constant_to(ws, dst, here, at + 1, levels, two.value, two.changes);
+    let Low { rank, level } = two.least;
+    let below = constant_to(ws, dst, 0, 0, level, rank);
+    let here = constant_to(ws, dst, below, level, level + 1, two.second);
+    constant_to(ws, dst, here, level + 1, levels, rank);
 }
 
 // The words of the list at f put at dst: four for each of the pieces, whose number is returned.
@@ -585,31 +521,25 @@ pub fn copy(ws: &mut [u64], f: usize, dst: usize, levels: u64) -> usize
     ensures { Copied ws.old ws.new f dst levels result }
 {
     let n = count(ws, f, levels);
-    let mut i: usize = 0;
-    while i < 4 * n {
+    for i in 0..4 * n {
         ws[dst + i] = ws[f + i];
-        i += 1;
     }
     n
 }
 
 // What f costs at level j, and with how many changes.
-pub fn value_at(ws: &[u64], f: usize, j: u64, levels: u64, base: u64) -> Rank
-    requires held { Held ws.now f levels × (base + levels ≤ 262144) }
-    requires j_lt_levels { j < levels }
-    requires by_index { (i : ℕ) → i < levels → Fine count_limit cost_limit (piece ws.now f levels i) (base + i) }
-    ensures { (rank_of result ≡ costs base (piece ws.now f levels) j) × (result.changes ≤ count_limit) }
+pub fn value_at(ws: &[u64], f: usize, j: u64, grid: Grid) -> Rank
+    requires held { Held ws.now f grid.levels }
+    requires j_lt_levels { j < grid.levels }
+    requires by_index { (i : ℕ) → i < grid.levels → Fine count_limit cost_limit (piece ws.now f grid.levels i) (grid.base + i) }
+    ensures { (rank_of result ≡ costs grid.base (piece ws.now f grid.levels) j) × (result.changes ≤ count_limit) }
 {
     let mut i: usize = 0;
     while ws[f + 4 * i] < j {
         i += 1;
     }
     let p = load(ws, f + 4 * i);
-    let value = quadratic::eval(p, base + j);
-    Rank {
-        value,
-        changes: p.w / quadratic::CHANGE,
-    }
+    quadratic::eval(p, grid.base + j)
 }
 
 // Whether f is one piece, none. Since equal neighbours are joined, a list that is none everywhere is; a wrong no would cost time only.
@@ -617,10 +547,5 @@ pub fn all_none(ws: &[u64], f: usize, levels: u64) -> bool
     requires { Held ws.now f levels × ((0 < levels) × (levels ≤ 262144)) }
     ensures { result ≡ none_only ws.now f levels }
 {
-    if ws[f] + 1 == levels {
-        if ws[f + 3] == quadratic::NONE {
-            return true;
-        }
-    }
-    false
+    ws[f] + 1 == levels && ws[f + 3] == quadratic::NONE
 }

@@ -1,40 +1,21 @@
-// Functions of the level as plain lists of values, and what the operations make of them, level by level. A value is a cost and a number of
-// changes: a list's costs stand from a word on, and the changes of each 360 words after it.
+// Functions of the level as plain lists of values, and what the operations make of them, level by level: 40 values for each of nine slots.
 ghost use Rattle.std.specs.Prelude.{◌≡◌, ◌<◌};
 
-use curve::Rank;
+use curve::{Grid, Rank};
 
-// What stands at i; 0 past the end.
-fn get(d: &[u64], i: usize) -> u64 {
-    if i < d.len() { d[i] } else { 0 }
+// Where the value of the list in slot a stands for level j.
+fn index(a: usize, j: u64) -> usize {
+    (40 * (a % 9)).wrapping_add(j as usize)
 }
 
-fn set(d: &mut [u64], i: usize, v: u64) {
-    if i < d.len() {
-        d[i] = v;
-    }
+// The value of the list in slot a, at level j; none past the end.
+pub fn at(values: &[Rank], a: usize, j: u64) -> Rank {
+    values.get(index(a, j)).copied().unwrap_or(Rank::NONE)
 }
 
-// The value of the list at a, at level j.
-pub fn at(d: &[u64], a: usize, j: u64) -> Rank {
-    let i = std::num::wrapping_add_usize(a, j as usize);
-    let value = get(d, i);
-    let changes = get(d, std::num::wrapping_add_usize(i, 360));
-    Rank { value, changes }
-}
-
-pub fn put(d: &mut [u64], a: usize, j: u64, v: Rank) {
-    let i = std::num::wrapping_add_usize(a, j as usize);
-    set(d, i, v.value);
-    set(d, std::num::wrapping_add_usize(i, 360), v.changes);
-}
-
-fn none() -> Rank
-    ensures { result.changes ≡ 0 }
-{
-    Rank {
-        value: quadratic::NONE,
-        changes: 0,
+pub fn put(values: &mut [Rank], a: usize, j: u64, v: Rank) {
+    if let Some(place) = values.get_mut(index(a, j)) {
+        *place = v;
     }
 }
 
@@ -44,33 +25,14 @@ fn plus(v: Rank, pen: u64, ch: u64) -> Rank {
         return v;
     }
     Rank {
-        value: std::num::wrapping_add_u64(v.value, pen),
-        changes: std::num::wrapping_add_u64(v.changes, ch),
+        value: v.value.wrapping_add(pen),
+        changes: v.changes.wrapping_add(ch),
     }
-}
-
-// Whether v is cheaper than w, or as cheap with fewer changes.
-fn less(v: Rank, w: Rank) -> bool {
-    if v.value < w.value {
-        return true;
-    }
-    if w.value < v.value {
-        return false;
-    }
-    v.changes < w.changes
-}
-
-fn lesser(v: Rank, w: Rank) -> Rank {
-    if less(w, v) { w } else { v }
-}
-
-fn distance(x: u64, y: u64) -> u64 {
-    if x < y { y - x } else { x - y }
 }
 
 // w times the square of the distance of two places; a distance is below 65536.
 fn loss(u: u64, v: u64, w: u64) -> u64 {
-    let e = distance(u, v) % 65536;
+    let e = u.abs_diff(v) % 65536;
     w % 256 * (e * e)
 }
 
@@ -106,10 +68,7 @@ pub fn changes(x: u64) -> u64
 
 // A gap below 64, mostly below 4.
 pub fn gap(x: u64) -> u64 {
-    if x / 4096 % 4 == 0 {
-        return x % 64;
-    }
-    x % 4
+    if x / 4096 % 4 == 0 { x % 64 } else { x % 4 }
 }
 
 // A penalty, mostly 0 or 1.
@@ -127,69 +86,48 @@ pub fn constant(x: u64) -> Rank
     ensures { result.changes < 4 }
 {
     if x / 16384 % 8 == 0 {
-        return none();
-    }
-    let k = changes(x);
-    if x / 131072 % 8 == 0 {
-        return Rank {
-            value: x,
-            changes: k,
-        };
+        return Rank::NONE;
     }
     let r = x / 1048576 % 4;
     Rank {
-        value: r * r,
-        changes: k,
+        value: if x / 131072 % 8 == 0 { x } else { r * r },
+        changes: changes(x),
     }
 }
 
 // Whether an edge leads from index i to j; number 5 stands for the range from gap to j.
 fn permits(number: u64, gap: u64, i: u64, j: u64) -> bool {
-    if number == 0 {
-        return i == j;
+    match number {
+        0 => i == j,
+        1 => i != j,
+        2 => i.wrapping_add(gap) <= j,
+        3 => j.wrapping_add(gap) <= i,
+        4 => gap <= i.abs_diff(j),
+        _ => gap <= i && i <= j,
     }
-    if number == 1 {
-        return i != j;
-    }
-    if number == 2 {
-        return std::num::wrapping_add_u64(i, gap) <= j;
-    }
-    if number == 3 {
-        return std::num::wrapping_add_u64(j, gap) <= i;
-    }
-    if number == 4 {
-        return gap <= distance(i, j);
-    }
-    if i < gap {
-        return false;
-    }
-    i <= j
 }
 
-// The first index that has the least value among those from which an edge leads to j; levels where there is none.
-pub fn first_least(d: &[u64], a: usize, number: u64, gap: u64, j: u64, levels: u64) -> u64 {
-    let mut best = Rank {
-        value: quadratic::NONE + 1,
-        changes: 0,
-    };
-    let mut found = levels;
-    let mut i: u64 = 0;
-    while i < levels {
-        let v = at(d, a, i);
-        if permits(number, gap, i, j) {
-            if less(v, best) {
-                best = v;
-                found = i;
-            }
+// The first index that has the least value among those from which an edge leads to j, if there is one.
+pub fn first_least(
+    values: &[Rank],
+    a: usize,
+    number: u64,
+    gap: u64,
+    j: u64,
+    levels: u64,
+) -> Option<u64> {
+    let mut best = None;
+    for i in 0..levels {
+        if permits(number, gap, i, j) && best.is_none_or(|k| at(values, a, i) < at(values, a, k)) {
+            best = Some(i);
         }
-        i += 1;
     }
-    found
+    best
 }
 
 // The values at acc and those at a over an edge, with pen and the edge's change added: the lesser at level j. Only a stay is no change.
 fn edge_value(
-    d: &[u64],
+    values: &[Rank],
     number: u64,
     gap: u64,
     pen: u64,
@@ -198,63 +136,43 @@ fn edge_value(
     j: u64,
     levels: u64,
 ) -> Rank {
-    let i = first_least(d, a, number, gap, j, levels);
-    let old = at(d, acc, j);
-    if i == levels {
-        return old;
+    let old = at(values, acc, j);
+    match first_least(values, a, number, gap, j, levels) {
+        None => old,
+        Some(i) => old.min(plus(at(values, a, i), pen, u64::from(number != 0))),
     }
-    let ch = if number == 0 { 0 } else { 1 };
-    lesser(old, plus(at(d, a, i), pen, ch))
 }
 
 // The least of the values at a up to j.
-fn least_to(d: &[u64], a: usize, j: u64) -> Rank {
-    let mut best = none();
-    let mut i: u64 = 0;
-    while i < j {
-        best = lesser(best, at(d, a, i));
-        i += 1;
+fn least_to(values: &[Rank], a: usize, j: u64) -> Rank {
+    let mut best = at(values, a, j);
+    for i in 0..j {
+        best = best.min(at(values, a, i));
     }
-    lesser(best, at(d, a, j))
+    best
 }
 
 // What operation op makes of the values at a, and at b, at level j. From 10 on op is an edge of kind op - 10.
-pub fn value(
-    d: &[u64],
-    op: u64,
-    a: usize,
-    b: usize,
-    x: u64,
-    j: u64,
-    levels: u64,
-    base: u64,
-) -> Rank {
-    let here = at(d, a, j);
-    if op == 0 {
-        return constant(x);
-    }
-    if op == 1 {
-        let v = std::num::wrapping_add_u64(base, j);
-        return plus(here, loss(place(x, base), v, weight(x)), 0);
-    }
-    if op == 2 {
-        if j < x % 12 {
-            return none();
+pub fn value(values: &[Rank], op: u64, a: usize, b: usize, x: u64, j: u64, grid: Grid) -> Rank {
+    let here = at(values, a, j);
+    match op {
+        0 => constant(x),
+        1 => {
+            let v = grid.base.wrapping_add(j);
+            plus(here, loss(place(x, grid.base), v, weight(x)), 0)
         }
-        return at(d, a, j - x % 12);
+        2 => {
+            let gap = x % 12;
+            if j < gap {
+                Rank::NONE
+            } else {
+                at(values, a, j - gap)
+            }
+        }
+        3 => at(values, a, grid.levels.wrapping_sub(j.wrapping_add(1))),
+        4 => least_to(values, a, j),
+        5 => here.min(plus(at(values, b, j), penalty(x), changes(x))),
+        6..=9 => here,
+        10..=u64::MAX => edge_value(values, op - 10, gap(x), penalty(x), a, b, j, grid.levels),
     }
-    if op == 3 {
-        let above = std::num::wrapping_add_u64(j, 1);
-        return at(d, a, std::num::wrapping_sub_u64(levels, above));
-    }
-    if op == 4 {
-        return least_to(d, a, j);
-    }
-    if op == 5 {
-        return lesser(here, plus(at(d, b, j), penalty(x), changes(x)));
-    }
-    if op < 10 {
-        return here;
-    }
-    edge_value(d, op - 10, gap(x), penalty(x), a, b, j, levels)
 }

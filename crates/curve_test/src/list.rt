@@ -4,6 +4,7 @@ ghost use Rattle.quadratic.specs.Quad.{quad, Fine};
 ghost use Rattle.curve.specs.Pieces.{Apart};
 ghost use Rattle.curve_test.specs.Valid.{Valid, Listed};
 
+use curve::Grid;
 use quadratic::Packed;
 
 // Whether q is within the ranges of those that are kept, and of 3 changes more.
@@ -12,16 +13,7 @@ fn small(q: Packed) -> bool
 {
     let a = q.w % quadratic::CHANGE;
     let k = q.w / quadratic::CHANGE;
-    if 1048573 < k {
-        return false;
-    }
-    if 1048573 - k < a {
-        return false;
-    }
-    if 549755813888 < q.z {
-        return false;
-    }
-    q.c <= 1152921504606846976
+    a + k <= 1048573 && q.z <= 549755813888 && q.c <= quadratic::NONE
 }
 
 // Whether q may be in force at v.
@@ -36,10 +28,7 @@ fn fine_at(q: Packed, v: u64) -> bool
     let k = q.w / quadratic::CHANGE;
     let z = q.z;
     let c = q.c;
-    if z + 65535 * a < a * v {
-        return false;
-    }
-    if a * v + 65535 * a < z {
+    if 65535 * a < z.abs_diff(a * v) {
         return false;
     }
     let rise = a * (v * v) + c;
@@ -47,10 +36,8 @@ fn fine_at(q: Packed, v: u64) -> bool
     if rise < fall {
         return false;
     }
-    if a == 0 {
-        if c == 1152921504606846976 {
-            return k == 0;
-        }
+    if a == 0 && c == quadratic::NONE {
+        return k == 0;
     }
     rise < fall + 9007199254740992
 }
@@ -60,30 +47,25 @@ fn fine_on(q: Packed, x: u64, e: u64, base: u64) -> bool
     requires { base + e < 262144 }
     ensures { result ≡ true → (j : ℕ) → x ≤ j → j ≤ e → Fine 1048573 9007199254740992 (quad q) (base + j) }
 {
-    let mut j = x;
-    while j <= e {
+    for j in x..e + 1 {
         if !fine_at(q, base + j) {
             return false;
         }
-        j += 1;
     }
     true
 }
 
 // Whether there is a list at o.
-fn scan(ws: &[u64], o: usize, levels: u64, base: u64) -> bool
-    requires { (o + 4 * levels ≤ length ws.now) × (base + levels ≤ 262144) }
-    ensures { result ≡ true → Listed ws.now o levels base }
+fn scan(ws: &[u64], o: usize, grid: Grid) -> bool
+    requires { o + 4 * grid.levels ≤ length ws.now }
+    ensures { result ≡ true → Listed ws.now o grid.levels grid.base }
 {
     let mut n: usize = 0;
     let mut x: u64 = 0;
-    while x < levels {
+    while x < grid.levels {
         let at = o + 4 * n;
         let e = ws[at];
-        if e < x {
-            return false;
-        }
-        if levels <= e {
+        if e < x || grid.levels <= e {
             return false;
         }
         let q = Packed {
@@ -91,7 +73,7 @@ fn scan(ws: &[u64], o: usize, levels: u64, base: u64) -> bool
             z: ws[at + 2],
             c: ws[at + 3],
         };
-        if !fine_on(q, x, e, base) {
+        if !fine_on(q, x, e, grid.base) {
             return false;
         }
         n += 1;
@@ -100,62 +82,31 @@ fn scan(ws: &[u64], o: usize, levels: u64, base: u64) -> bool
     true
 }
 
-// Whether the list at o is there, with room for a full one, on a grid within the places.
-pub fn valid(ws: &[u64], o: usize, levels: u64, base: u64) -> bool
-    ensures { result ≡ true → Valid ws.now o levels base }
+// Whether the list at o is there, with room for a full one, on a grid within the signed 16-bit levels.
+pub fn valid(ws: &[u64], o: usize, grid: Grid) -> bool
+    ensures { result ≡ true → Valid ws.now o grid.levels grid.base }
 {
-    if levels == 0 {
-        return false;
-    }
-    if 1024 < levels {
-        return false;
-    }
-    if base < 131072 {
-        return false;
-    }
-    if 196608 < base {
-        return false;
-    }
-    if 196608 < base + levels {
-        return false;
-    }
-    if 1048576 < o {
-        return false;
-    }
-    if ws.len() < o + 4 * (levels as usize) {
-        return false;
-    }
-    scan(ws, o, levels, base)
+    0 < grid.levels
+        && 131072 <= grid.base
+        && grid.base + grid.levels <= 196608
+        && room(ws, o, grid.levels)
+        && scan(ws, o, grid)
 }
 
 // Whether full lists at o and p share no word.
 pub fn apart(o: usize, p: usize, levels: u64) -> bool
     ensures { result ≡ true → Apart o p (4 * levels) }
 {
-    if 1048576 < o {
+    if 1048576 < o || 1048576 < p || 1024 < levels {
         return false;
     }
-    if 1048576 < p {
-        return false;
-    }
-    if 1024 < levels {
-        return false;
-    }
-    if o + 4 * (levels as usize) <= p {
-        return true;
-    }
-    p + 4 * (levels as usize) <= o
+    let words = 4 * levels as usize;
+    o + words <= p || p + words <= o
 }
 
-// Whether there is room for a full list at o.
+// Whether there is room for a full list of at most 1024 levels at o.
 pub fn room(ws: &[u64], o: usize, levels: u64) -> bool
-    ensures { result ≡ true → o + 4 * levels ≤ length ws.now }
+    ensures { result ≡ true → (levels ≤ 1024) × (o + 4 * levels ≤ length ws.now) }
 {
-    if 1048576 < o {
-        return false;
-    }
-    if 1024 < levels {
-        return false;
-    }
-    o + 4 * (levels as usize) <= ws.len()
+    o <= 1048576 && levels <= 1024 && o + 4 * (levels as usize) <= ws.len()
 }

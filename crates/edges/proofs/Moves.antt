@@ -117,11 +117,11 @@ module _ {pen base L f acc next work : ℕ} {ws : List ℕ} (y : Ready acc next 
       curve = λ A B C D F G l g h ca cf. (edge_min L Any G, (others_curve y.some t (lower_limits D C (omega arith) (omega arith) l) cf y.hand.into.room_work m, λ j i. refl));
     }
 
-    pub least_stands : {w1 : List ℕ} → costs base (piece ws acc L) r.level ≤ least_of r + lex pen 1 → Made (λ (j : ℕ). flat r.value r.changes) ws w1 work L → StandsFor (edge_min L Any) pen 1 base L ws w1 f acc next work
+    pub least_stands : {w1 : List ℕ} → costs base (piece ws acc L) r.least.level ≤ least_of r + lex pen 1 → Made (λ (j : ℕ). flat r.least.rank.value r.least.rank.changes) ws w1 work L → StandsFor (edge_min L Any) pen 1 base L ws w1 f acc next work
     least_stands e m = record {
       spared = record { size = m.kept.size; word = λ i a b c. kept_off L m.kept i b };
       curve = λ A B C D F G l g h ca cf. let n = lower_limits D C (omega arith) (omega arith) l in let i = any_inside y.some t in
-          ((λ (j : ℕ). least_of r), (least_curve y.some t n cf y.hand.into.room_work m, least_seen y.some t n cf (lex pen 1) F (curve_most l ca r.level i) (omega (arith, (ca.at r.level i).is))));
+          ((λ (j : ℕ). least_of r), (least_curve y.some t n cf y.hand.into.room_work m, least_seen y.some t n cf (lex pen 1) F (curve_most l ca r.least.level i) (omega (arith, (ca.at r.least.level i).is))));
     }
 
   -- f by E stands for itself

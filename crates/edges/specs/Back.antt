@@ -26,8 +26,8 @@ pub record Met (P : ℕ → Type 0) (L : ℕ) (F : ℕ → ℕ) (r : Low) : Type
 pub record LeastOf (P : ℕ → Type 0) (L : ℕ) (F : ℕ → ℕ) (r : Low) : Type 0 where
   pub least : (i : ℕ) → i < L → P i → low_of r ≤ F i
   pub met : (r ≡ no_low) ⊎ Met P L F r
-  pub changes : r.changes ≤ count_limit
-  pub high : r.value ≤ top_cost
+  pub changes : r.rank.changes ≤ count_limit
+  pub high : r.rank.value ≤ top_cost
 
 -- what the step back needs: the edge's cost, and the level that it is taken from
 pub record Offered (L : ℕ) (k : Kind) (F : ℕ → ℕ) (j : ℕ) (r : Low) : Type 0 where

@@ -17,101 +17,74 @@ ghost use Rattle.model.specs.Model.{change_of};
 ghost use Rattle.model.specs.Index.{up_min, down_min, edge_min, Permitted};
 ghost use Rattle.quadratic.specs.Quad.{count_limit, cost_limit};
 ghost use Rattle.curve.specs.Pieces.{piece, Apart};
-ghost use Rattle.curve.specs.Lows.{top_cost, low_of, costs, no_low};
+ghost use Rattle.curve.specs.Lows.{top_cost, low_of, costs};
 ghost use Rattle.curve.specs.Curve.{Limits};
 ghost use Rattle.edges.specs.Back.{LeastOf, pick_low};
 ghost use Rattle.edges.specs.Edge.{Into, Joint, Sound, Ready, Moved, StandsFor, Joined, Taken, WithLoss};
 
-use curve::Low;
+use curve::{Grid, Low, Rank};
 use plan::Kind;
 
 // work: at each level the least of f at the other levels. That is the least of all, but at a level that has it: there it is the second least. It
 // is left out where it cannot be seen: where the least so far comes there no later than the least with pen and one change. So it is where a stay
 // from f, no dearer than this edge, was taken before; and one piece is quicker than three.
-fn any_into(
-    ws: &mut [u64],
-    acc: usize,
-    next: usize,
-    work: usize,
-    f: usize,
-    pen: u64,
-    levels: u64,
-    base: u64,
-)
-    requires { Ready acc next work f pen base levels ws.old }
-    ensures { StandsFor (edge_min levels Any) pen 1 base levels ws.old ws.new f acc next work }
+fn any_into(ws: &mut [u64], acc: usize, next: usize, work: usize, f: usize, pen: u64, grid: Grid)
+    requires { Ready acc next work f pen grid.base grid.levels ws.old }
+    ensures { StandsFor (edge_min grid.levels Any) pen 1 grid.base grid.levels ws.old ws.new f acc next work }
 {
-    let two = curve::two_least(ws, f, levels, base);
-    let so_far = curve::value_at(ws, acc, two.level, levels, base);
-    if quadratic::comes_first(
-        two.value + pen,
-        two.changes + 1,
-        so_far.value,
-        so_far.changes,
-    ) {
-        curve::constant_but(ws, work, levels, two);
-        return;
+    let two = curve::two_least(ws, f, grid);
+    let Low { rank, level } = two.least;
+    let so_far = curve::value_at(ws, acc, level, grid);
+    let offer = Rank {
+        value: rank.value + pen,
+        changes: rank.changes + 1,
+    };
+    if quadratic::comes_first(offer, so_far) {
+        curve::constant_but(ws, work, grid.levels, two);
+    } else {
+        curve::constant(ws, work, grid.levels, rank);
     }
-    curve::constant(ws, work, levels, two.value, two.changes);
 }
 
 // work: at each level the least of f at the levels at least gap below.
-fn up_into(ws: &mut [u64], f: usize, gap: u64, next: usize, work: usize, levels: u64, base: u64)
-    requires into { Into f next work levels (length ws.old) × (gap < 1024) }
-    requires limits { Limits count_limit cost_limit base levels × Sound count_limit cost_limit base levels ws.old f }
-    ensures { Moved (up_min gap) base levels ws.old ws.new f next work }
+fn up_into(ws: &mut [u64], f: usize, gap: u64, next: usize, work: usize, grid: Grid)
+    requires into { Into f next work grid.levels (length ws.old) × (gap < 1024) }
+    requires limits { Limits count_limit cost_limit grid.base grid.levels × Sound count_limit cost_limit grid.base grid.levels ws.old f }
+    ensures { Moved (up_min gap) grid.base grid.levels ws.old ws.new f next work }
 {
-    curve::running_min(ws, f, next, levels, base);
-    curve::shift(ws, next, gap, work, levels);
+    curve::running_min(ws, f, next, grid);
+    curve::shift(ws, next, gap, work, grid);
 }
 
 // work: at each level the least of f at the levels at least gap above, which is the same in the mirror.
-fn down_into(ws: &mut [u64], f: usize, gap: u64, next: usize, work: usize, levels: u64, base: u64)
-    requires into { Into f next work levels (length ws.old) × (gap < 1024) }
-    requires limits { Limits count_limit cost_limit base levels × Sound count_limit cost_limit base levels ws.old f }
-    ensures { Moved (down_min levels gap) base levels ws.old ws.new f next work }
+fn down_into(ws: &mut [u64], f: usize, gap: u64, next: usize, work: usize, grid: Grid)
+    requires into { Into f next work grid.levels (length ws.old) × (gap < 1024) }
+    requires limits { Limits count_limit cost_limit grid.base grid.levels × Sound count_limit cost_limit grid.base grid.levels ws.old f }
+    ensures { Moved (down_min grid.levels gap) grid.base grid.levels ws.old ws.new f next work }
 {
-    curve::mirror(ws, f, next, levels, base);
-    curve::running_min(ws, next, work, levels, base);
-    curve::shift(ws, work, gap, next, levels);
-    curve::mirror(ws, next, work, levels, base);
+    curve::mirror(ws, f, next, grid);
+    curve::running_min(ws, next, work, grid);
+    curve::shift(ws, work, gap, next, grid);
+    curve::mirror(ws, next, work, grid);
 }
 
 // The least so far and g with pen and ch changes added, at next.
-fn take(
-    ws: &mut [u64],
-    acc: usize,
-    next: usize,
-    g: usize,
-    pen: u64,
-    ch: u64,
-    levels: u64,
-    base: u64,
-)
-    requires joint { Joint acc next g levels (length ws.old) × ((pen ≤ cost_limit) × (ch ≤ 1)) }
-    requires limits { Limits count_limit cost_limit base levels }
-    requires sound { Sound count_limit cost_limit base levels ws.old acc × Sound (count_limit - 1) (cost_limit - pen) base levels ws.old g }
-    ensures { Joined pen ch base levels ws.old ws.new g acc next }
+fn take(ws: &mut [u64], acc: usize, next: usize, g: usize, pen: u64, ch: u64, grid: Grid)
+    requires joint { Joint acc next g grid.levels (length ws.old) × ((pen ≤ cost_limit) × (ch ≤ 1)) }
+    requires limits { Limits count_limit cost_limit grid.base grid.levels }
+    requires sound { Sound count_limit cost_limit grid.base grid.levels ws.old acc × Sound (count_limit - 1) (cost_limit - pen) grid.base grid.levels ws.old g }
+    ensures { Joined pen ch grid.base grid.levels ws.old ws.new g acc next }
 {
-    curve::least_of_two(ws, acc, g, pen, ch, next, levels, base);
+    curve::least_of_two(ws, acc, g, pen, ch, next, grid);
 }
 
 // An edge of kind any, at next.
-fn take_any(
-    ws: &mut [u64],
-    acc: usize,
-    next: usize,
-    work: usize,
-    f: usize,
-    pen: u64,
-    levels: u64,
-    base: u64,
-)
-    requires { Ready acc next work f pen base levels ws.old }
-    ensures { Taken (edge_min levels Any) pen 1 base levels ws.old ws.new f acc next work next }
+fn take_any(ws: &mut [u64], acc: usize, next: usize, work: usize, f: usize, pen: u64, grid: Grid)
+    requires { Ready acc next work f pen grid.base grid.levels ws.old }
+    ensures { Taken (edge_min grid.levels Any) pen 1 grid.base grid.levels ws.old ws.new f acc next work next }
 {
-    any_into(ws, acc, next, work, f, pen, levels, base);
-    take(ws, acc, next, work, pen, 1, levels, base);
+    any_into(ws, acc, next, work, f, pen, grid);
+    take(ws, acc, next, work, pen, 1, grid);
 }
 
 // An edge of kind up, at next.
@@ -123,14 +96,13 @@ fn take_up(
     f: usize,
     gap: u64,
     pen: u64,
-    levels: u64,
-    base: u64,
+    grid: Grid,
 )
-    requires { Ready acc next work f pen base levels ws.old × (gap < 1024) }
-    ensures { Taken (up_min gap) pen 1 base levels ws.old ws.new f acc next work next }
+    requires { Ready acc next work f pen grid.base grid.levels ws.old × (gap < 1024) }
+    ensures { Taken (up_min gap) pen 1 grid.base grid.levels ws.old ws.new f acc next work next }
 {
-    up_into(ws, f, gap, next, work, levels, base);
-    take(ws, acc, next, work, pen, 1, levels, base);
+    up_into(ws, f, gap, next, work, grid);
+    take(ws, acc, next, work, pen, 1, grid);
 }
 
 // An edge of kind down, at next.
@@ -142,14 +114,13 @@ fn take_down(
     f: usize,
     gap: u64,
     pen: u64,
-    levels: u64,
-    base: u64,
+    grid: Grid,
 )
-    requires { Ready acc next work f pen base levels ws.old × (gap < 1024) }
-    ensures { Taken (down_min levels gap) pen 1 base levels ws.old ws.new f acc next work next }
+    requires { Ready acc next work f pen grid.base grid.levels ws.old × (gap < 1024) }
+    ensures { Taken (down_min grid.levels gap) pen 1 grid.base grid.levels ws.old ws.new f acc next work next }
 {
-    down_into(ws, f, gap, next, work, levels, base);
-    take(ws, acc, next, work, pen, 1, levels, base);
+    down_into(ws, f, gap, next, work, grid);
+    take(ws, acc, next, work, pen, 1, grid);
 }
 
 // The least so far with an edge from the list at f taken in: where it stands, which is acc or next. A list that is none everywhere
@@ -162,37 +133,36 @@ pub fn take_edge(
     f: usize,
     kind: Kind,
     pen: u64,
-    levels: u64,
-    base: u64,
+    grid: Grid,
 ) -> usize
-    requires { Ready acc next work f pen base levels ws.old × (gap_of kind ≤ 1023) }
-    ensures { Taken (edge_min levels kind) pen (change_of kind) base levels ws.old ws.new f acc next work result }
+    requires { Ready acc next work f pen grid.base grid.levels ws.old × (gap_of kind ≤ 1023) }
+    ensures { Taken (edge_min grid.levels kind) pen (change_of kind) grid.base grid.levels ws.old ws.new f acc next work result }
 {
-    if curve::all_none(ws, f, levels) {
+    if curve::all_none(ws, f, grid.levels) {
         return acc;
     }
     let number = plan::kind_number(kind);
     let gap = plan::gap_of(kind) as u64;
     match number {
         0 => {
-            take(ws, acc, next, f, pen, 0, levels, base);
+            take(ws, acc, next, f, pen, 0, grid);
             next
         }
         1 => {
-            take_any(ws, acc, next, work, f, pen, levels, base);
+            take_any(ws, acc, next, work, f, pen, grid);
             next
         }
         2 => {
-            take_up(ws, acc, next, work, f, gap, pen, levels, base);
+            take_up(ws, acc, next, work, f, gap, pen, grid);
             next
         }
         3 => {
-            take_down(ws, acc, next, work, f, gap, pen, levels, base);
+            take_down(ws, acc, next, work, f, gap, pen, grid);
             next
         }
         4 => {
-            take_up(ws, acc, next, work, f, gap, pen, levels, base);
-            take_down(ws, next, acc, work, f, gap, pen, levels, base);
+            take_up(ws, acc, next, work, f, gap, pen, grid);
+            take_down(ws, next, acc, work, f, gap, pen, grid);
             acc
         }
         5..=255 => acc,
@@ -200,86 +170,75 @@ pub fn take_edge(
 }
 
 // dst: the list at f with the loss of a reading at the place u: w times the square of the distance from each level.
-pub fn add_reading(ws: &mut [u64], f: usize, u: u64, w: u64, dst: usize, levels: u64, base: u64)
-    requires apart { Apart f dst (4 * levels) × (dst + 4 * levels ≤ length ws.old) }
-    requires le_u { ((131072 ≤ u) × (u < 196608)) × ((w < 256) × (base + levels ≤ 196608)) }
-    requires limits { Limits count_limit cost_limit base levels × Sound count_limit cost_limit base levels ws.old f }
-    ensures { WithLoss w u base levels ws.old ws.new f dst }
+pub fn add_reading(ws: &mut [u64], f: usize, u: u64, w: u64, dst: usize, grid: Grid)
+    requires apart { Apart f dst (4 * grid.levels) × (dst + 4 * grid.levels ≤ length ws.old) }
+    requires le_u { ((131072 ≤ u) × (u < 196608)) × ((w < 256) × (grid.base + grid.levels ≤ 196608)) }
+    requires limits { Limits count_limit cost_limit grid.base grid.levels × Sound count_limit cost_limit grid.base grid.levels ws.old f }
+    ensures { WithLoss w u grid.base grid.levels ws.old ws.new f dst }
 {
-    curve::add_loss(ws, f, u, w, dst, levels);
+    curve::add_loss(ws, f, u, w, dst, grid);
 }
 
 // The lower of two, the first where they are equal.
 fn lower_of(a: Low, b: Low) -> Low
-    requires { (a.changes ≤ count_limit) × ((b.changes ≤ count_limit) × (b.value ≤ top_cost)) }
+    requires { (a.rank.changes ≤ count_limit) × ((b.rank.changes ≤ count_limit) × (b.rank.value ≤ top_cost)) }
     ensures { result ≡ pick_low (ltb (low_of b) (low_of a)) b a }
 {
-    if quadratic::comes_first(b.value, b.changes, a.value, a.changes) {
+    if quadratic::comes_first(b.rank, a.rank) {
         b
     } else {
         a
     }
 }
 
-// Where there is no level to be taken from.
-fn no_low() -> Low
-    ensures { result ≡ no_low }
-{
-    Low {
-        value: quadratic::NONE + 1,
-        changes: 0,
-        level: 0,
-    }
-}
-
 // The least of f at the levels at least gap below j, with the lowest of them that has it.
-fn least_below(ws: &[u64], f: usize, gap: u64, j: u64, levels: u64, base: u64) -> Low
-    requires limits { Limits count_limit cost_limit base levels × Sound count_limit cost_limit base levels ws.now f }
-    requires j_lt_levels { j < levels }
-    ensures { LeastOf (λ (i : ℕ). i + gap ≤ j) levels (costs base (piece ws.now f levels)) result }
+fn least_below(ws: &[u64], f: usize, gap: u64, j: u64, grid: Grid) -> Low
+    requires limits { Limits count_limit cost_limit grid.base grid.levels × Sound count_limit cost_limit grid.base grid.levels ws.now f }
+    requires j_lt_levels { j < grid.levels }
+    ensures { LeastOf (λ (i : ℕ). i + gap ≤ j) grid.levels (costs grid.base (piece ws.now f grid.levels)) result }
 {
     if gap <= j {
-        curve::least_in(ws, f, 0, j - gap, levels, base)
+        curve::least_in(ws, f, 0, j - gap, grid)
     } else {
-        no_low()
+        Low::NOWHERE
     }
 }
 
 // The least of f at the levels at least gap above j, with the lowest of them that has it.
-fn least_above(ws: &[u64], f: usize, gap: u64, j: u64, levels: u64, base: u64) -> Low
-    requires limits { Limits count_limit cost_limit base levels × Sound count_limit cost_limit base levels ws.now f }
-    requires j_lt_levels { (j < levels) × (gap < 1024) }
-    ensures { LeastOf (λ (i : ℕ). j + gap ≤ i) levels (costs base (piece ws.now f levels)) result }
+fn least_above(ws: &[u64], f: usize, gap: u64, j: u64, grid: Grid) -> Low
+    requires limits { Limits count_limit cost_limit grid.base grid.levels × Sound count_limit cost_limit grid.base grid.levels ws.now f }
+    requires j_lt_levels { (j < grid.levels) × (gap < 1024) }
+    ensures { LeastOf (λ (i : ℕ). j + gap ≤ i) grid.levels (costs grid.base (piece ws.now f grid.levels)) result }
 {
-    curve::least_in(ws, f, j + gap, levels - 1, levels, base)
+    curve::least_in(ws, f, j + gap, grid.levels - 1, grid)
 }
 
 // The least of f at the levels at least gap from j, with the lowest of them that has it.
-fn least_beside(ws: &[u64], f: usize, gap: u64, j: u64, levels: u64, base: u64) -> Low
-    requires limits { Limits count_limit cost_limit base levels × Sound count_limit cost_limit base levels ws.now f }
-    requires j_lt_levels { (j < levels) × (gap < 1024) }
-    ensures { LeastOf (λ (i : ℕ). (i + gap ≤ j) ⊎ (j + gap ≤ i)) levels (costs base (piece ws.now f levels)) result }
+fn least_beside(ws: &[u64], f: usize, gap: u64, j: u64, grid: Grid) -> Low
+    requires limits { Limits count_limit cost_limit grid.base grid.levels × Sound count_limit cost_limit grid.base grid.levels ws.now f }
+    requires j_lt_levels { (j < grid.levels) × (gap < 1024) }
+    ensures { LeastOf (λ (i : ℕ). (i + gap ≤ j) ⊎ (j + gap ≤ i)) grid.levels (costs grid.base (piece ws.now f grid.levels)) result }
 {
-    let below = least_below(ws, f, gap, j, levels, base);
-    let above = least_above(ws, f, gap, j, levels, base);
+    let below = least_below(ws, f, gap, j, grid);
+    let above = least_above(ws, f, gap, j, grid);
     lower_of(below, above)
 }
 
 // The least of f at the levels from which an edge of the kind leads to level j, with the lowest of them that has it;
 // none, or more, where there is no cost.
-pub fn least_before(ws: &[u64], f: usize, kind: Kind, j: u64, levels: u64, base: u64) -> Low
-    requires limits { Limits count_limit cost_limit base levels × Sound count_limit cost_limit base levels ws.now f }
-    requires j_lt_levels { (j < levels) × (gap_of kind ≤ 1023) }
-    ensures { LeastOf (λ (i : ℕ). Permitted kind i j) levels (costs base (piece ws.now f levels)) result }
+pub fn least_before(ws: &[u64], f: usize, kind: Kind, j: u64, grid: Grid) -> Low
+    requires limits { Limits count_limit cost_limit grid.base grid.levels × Sound count_limit cost_limit grid.base grid.levels ws.now f }
+    requires j_lt_levels { (j < grid.levels) × (gap_of kind ≤ 1023) }
+    ensures { LeastOf (λ (i : ℕ). Permitted kind i j) grid.levels (costs grid.base (piece ws.now f grid.levels)) result }
 {
     let number = plan::kind_number(kind);
     let gap = plan::gap_of(kind) as u64;
     match number {
-        0 => curve::least_in(ws, f, j, j, levels, base),
-        1 => least_beside(ws, f, 1, j, levels, base),
-        2 => least_below(ws, f, gap, j, levels, base),
-        3 => least_above(ws, f, gap, j, levels, base),
-        4 => least_beside(ws, f, gap, j, levels, base),
-        5..=255 => no_low(),
+        0 => curve::least_in(ws, f, j, j, grid),
+        1 => least_beside(ws, f, 1, j, grid),
+        2 => least_below(ws, f, gap, j, grid),
+        3 => least_above(ws, f, gap, j, grid),
+        4 => least_beside(ws, f, gap, j, grid),
+        5..=255 => Low::NOWHERE,
     }
 }

@@ -19,11 +19,28 @@ pub const NONE: u64 = 1152921504606846976;
 // One change more, in the word that has a and k: w = a + 2^32 k.
 pub const CHANGE: u64 = 4294967296;
 
-#[derive(Clone, Copy)]
+// The order of the fields is that in which two are compared: where two quadratics differ c nearly always does, so that the other tests are hardly
+// reached and the processor predicts the one that is.
+#[derive(Clone, Copy, PartialEq, Eq)]
 pub struct Packed {
+    pub c: u64,
     pub w: u64,
     pub z: u64,
-    pub c: u64,
+}
+
+// A cost and a number of changes. The one that comes first is the less of two.
+#[derive(Clone, Copy, PartialEq, Eq, PartialOrd, Ord)]
+pub struct Rank {
+    pub value: u64,
+    pub changes: u64,
+}
+
+impl Rank {
+    // What is not there.
+    pub const NONE: Rank = Rank {
+        value: NONE,
+        changes: 0,
+    };
 }
 
 // The two parts of a cost, which is rise less fall.
@@ -41,12 +58,15 @@ fn fall(z: u64, v: u64) -> u64
     2 * (z * v)
 }
 
-// The cost at v.
-pub fn eval(q: Packed, v: u64) -> u64
+// The cost at v, with q's changes.
+pub fn eval(q: Packed, v: u64) -> Rank
     requires { Small (quad q) × ((v < 262144) × (down (quad q) v ≤ up (quad q) v)) }
-    ensures { (result ≡ cost (quad q) v) × (result ≤ 2377900603251621888) }
+    ensures { ((result.value ≡ cost (quad q) v) × (result.changes ≡ (quad q).k)) × (result.value ≤ 2377900603251621888) }
 {
-    rise(q.w % CHANGE, q.c, v) - fall(q.z, v)
+    Rank {
+        value: rise(q.w % CHANGE, q.c, v) - fall(q.z, v),
+        changes: q.w / CHANGE,
+    }
 }
 
 // Whether w is at most l at v.
@@ -61,16 +81,15 @@ pub fn under(w: Packed, l: Packed, v: u64) -> bool
 pub fn more_changes(i: u64, j: u64) -> u64
     ensures { result ≡ late i j }
 {
-    if j < i { 1 } else { 0 }
+    u64::from(j < i)
 }
 
-// The cost x with i changes comes before the cost y with j: it is cheaper, or as cheap with fewer changes. One sum and one comparison are quicker than two
-// comparisons.
-pub fn comes_first(x: u64, i: u64, y: u64, j: u64) -> bool
-    requires { (i < unit) × ((j < unit) × (x ≤ 4611686018427387904)) }
-    ensures { result ≡ ltb (lex x i) (lex y j) }
+// a comes before b: it is cheaper, or as cheap with fewer changes. One sum and one comparison are quicker than two comparisons.
+pub fn comes_first(a: Rank, b: Rank) -> bool
+    requires { (a.changes < unit) × ((b.changes < unit) × (a.value ≤ 4611686018427387904)) }
+    ensures { result ≡ ltb (lex a.value a.changes) (lex b.value b.changes) }
 {
-    x + 1 - more_changes(j, i) <= y
+    a.value + 1 - more_changes(b.changes, a.changes) <= b.value
 }
 
 // p less q, signed.
@@ -195,8 +214,8 @@ pub fn raise(q: Packed, pen: u64, ch: u64) -> Packed
     } else {
         Packed {
             w: q.w + CHANGE * ch,
-            z: q.z,
             c: q.c + pen,
+            ..q
         }
     }
 }
@@ -224,9 +243,9 @@ pub fn shift(q: Packed, g: u64) -> Packed
 {
     let a = q.w % CHANGE;
     Packed {
-        w: q.w,
         z: q.z + a * g,
         c: q.c + (2 * (q.z * g) + a * (g * g)),
+        ..q
     }
 }
 
@@ -238,8 +257,8 @@ pub fn mirror(q: Packed, s: u64) -> Packed
 {
     let a = q.w % CHANGE;
     Packed {
-        w: q.w,
         z: a * s - q.z,
         c: a * (s * s) + q.c - 2 * (q.z * s),
+        ..q
     }
 }

@@ -1,66 +1,47 @@
 -- `curve::add_loss`: piece by piece. Assumes nothing.
-use mathlib.Core.Logic.{inl}
-use mathlib.Core.Path.{◌≡◌, refl, sym, ◌∙◌, ap}
-use Prim.Native.Nat.{◌+◌, ◌*◌, ◌≤◌}
+use mathlib.Core.Path.{◌≡◌, sym, ◌∙◌, ap, subst}
+use Prim.Native.Nat.{ℕ, ◌+◌, ◌*◌, ◌<◌, ◌≤◌}
 use native.Mathlib.Omega.{arith}
 use lib.ListN.{length}
-use Rattle.quadratic.specs.Quad.{pushed}
+use Rattle.quadratic.specs.Quad.{Sized, pushed}
+use Rattle.curve.specs.Pieces.{Emits, piece}
 use Rattle.curve.specs.Lists.{emits_none, emits_append, made}
-use Rattle.curve.proofs.Laws.{small, Seen, seen, at_start, appended_new}
-use Rattle.curve.proofs.add_loss.Goals.{In-loop-x}
+use Rattle.curve.proofs.Laws.{small, Seen, appended_new}
+use Rattle.curve.proofs.Walks.{Given, given, walking_none, walk_room, sees}
+use Rattle.curve.proofs.add_loss.Goals.{At-loop-piece, In-Some}
 use Rattle.curve.proofs.add_loss.Goals as goal
 
-pub loop-x-init : goal.loop-x-init
-loop-x-init c = ((omega arith, at_start c.requires.lent.0.formed), emits_none _ _ _ _ _)
+pub loop-piece-init : goal.loop-piece-init
+loop-piece-init c = rw c.over-pieces.ensures (walking_none c.requires.lent.0.formed, emits_none _ _ _ _ _)
 
-sf : (c : In-loop-x) → Seen c.args.ws.now c.loop-x.ws c.args.f c.args.levels c.loop-x.i c.loop-x.x
-sf c = seen c.loop-x.invariant.1.kept (omega (arith, c.loop-x.invariant.1.count (omega arith))) c.requires.lent.0 c.loop-x.invariant.0.1 c.loop-x-test.true
+-- the list that is read, by its state at entry
+sf : (c : At-loop-piece) → c.loop-piece.pieces.from < c.args.grid.levels → Seen c.args.ws.now c.loop-piece.ws c.args.f c.args.grid.levels c.loop-piece.pieces.index c.loop-piece.pieces.from
+sf c = let i = c.loop-piece.invariant in sees i.0 i.1.kept (omega (arith, i.1.count (omega arith), i.0.most)) c.requires.lent.0
 
-pub overflow_mul-at : goal.overflow_mul-at
-overflow_mul-at c = omega (arith, (sf c).room)
+pub next-requires : goal.next-requires
+next-requires c = walk_room c.loop-piece.invariant.0 (sf (goal.at.next-requires c).At-loop-piece) c.args.grid.levels (omega arith) (omega (arith, c.args.grid.within))
 
-pub overflow_add-at : goal.overflow_add-at
-overflow_add-at c = omega (arith, (sf c).room)
-
-pub offset_bounds-ws-at : goal.offset_bounds-ws-at
-offset_bounds-ws-at c = omega (arith, (sf c).room)
-
-pub bounds-ws-at : goal.bounds-ws-at
-bounds-ws-at c = omega (arith, (sf (goal.at.bounds-ws-at c).In-loop-x).room)
-
-pub load-p-requires : goal.load-p-requires
-load-p-requires c = (sf (goal.at.load-p-requires c).In-loop-x).room
+-- the piece
+got : (c : In-Some) → Given c.args.ws.now c.args.f c.args.grid.levels c.args.grid.levels c.loop-piece.pieces c.next.new.self c.in-Some.piece
+got c = given c.loop-piece.invariant.0 (sf (goal.at-In-Some c).At-loop-piece) (omega arith) c.in-Some.ensures
 
 pub add_square-q-requires : goal.add_square-q-requires
-add_square-q-requires c = (small (rw (c.load-p.ensures, ← ((sf (goal.at.add_square-q-requires c).In-loop-x).is c.loop-x.x (omega arith) (sf (goal.at.add_square-q-requires c).In-loop-x).from)) (c.requires.by_index c.loop-x.x c.loop-x-test.true)), c.requires.u_bound.0)
-
-pub overflow_mul-i : goal.overflow_mul-i
-overflow_mul-i c = let i = c.loop-x.invariant in omega (arith, i.1.count (omega arith), i.0.0, c.requires.u_bound)
+add_square-q-requires c = let g = got (goal.at.add_square-q-requires c).In-Some in
+    (small (subst Sized (g.is c.in-Some.piece.from (omega arith) g.order) (c.requires.by_index c.in-Some.piece.from g.inside)), c.requires.u_bound)
 
 -- the piece has room
-room : (c : goal.After-store-arg-1) → c.args.dst + 4 * c.loop-x.i + 4 ≤ length c.loop-x.ws
-room c = let i = c.loop-x.invariant.1 in omega (arith, i.count (omega arith), (sf c.before.before.before.before).from, (sf c.before.before.before.before).to, i.kept.size, c.requires.lent)
+room : (c : In-Some) → (c.in-Some.piece.index < 262144) × (c.args.dst + 4 * c.in-Some.piece.index + 4 ≤ length c.loop-piece.ws)
+room c = let g = got c in let i = c.loop-piece.invariant.1 in let n = i.count (omega arith) in
+    (omega (arith, g.most, c.args.grid.within), omega (arith, n, g.index, g.begins, g.inside, i.kept.size, c.requires.lent.1))
 
-pub overflow_add-dst : goal.overflow_add-dst
-overflow_add-dst c = omega (arith, room c)
+pub loop-piece-smaller : goal.loop-piece-smaller
+loop-piece-smaller c = let g = got (goal.at.loop-piece-smaller c).In-Some in omega (arith, g.after, g.begins, g.order, g.inside)
 
-pub store-requires : goal.store-requires
-store-requires c = room c
-
-pub overflow_add-i : goal.overflow_add-i
-overflow_add-i c = omega (arith, (sf (goal.at.overflow_add-i c).In-loop-x).index, c.requires.u_bound)
-
-pub overflow_add-x : goal.overflow_add-x
-overflow_add-x c = omega (arith, (sf (goal.at.overflow_add-x c).In-loop-x).to, c.requires.u_bound)
-
-pub loop-x-smaller : goal.loop-x-smaller
-loop-x-smaller c = omega (arith, (sf (goal.at.loop-x-smaller c).In-loop-x).from, c.loop-x-test)
-
-pub loop-x-preserved : goal.loop-x-preserved
-loop-x-preserved c = ((omega (arith, (sf (goal.at.loop-x-preserved c).In-loop-x).to), (sf (goal.at.loop-x-preserved c).In-loop-x).step _ _ (sf (goal.at.loop-x-preserved c).In-loop-x).from (omega arith) (inl (refl, refl))), emits_append (omega arith) (omega arith) (sf (goal.at.loop-x-preserved c).In-loop-x).from c.loop-x.invariant.1 (appended_new _ _ _ _ _ _ c.store.ensures) (λ j p q. c.add_square-q.ensures ∙ ap (pushed c.args.w c.args.u) (c.load-p.ensures ∙ sym ((sf (goal.at.loop-x-preserved c).In-loop-x).is j p q))))
-
-pub shape_of-ws : goal.shape_of-ws
-shape_of-ws c = c.loop-x.invariant.1.kept.size
+pub loop-piece-preserved : goal.loop-piece-preserved
+loop-piece-preserved c =
+    let g = got (goal.at.loop-piece-preserved c).In-Some in
+    let before : Emits (λ (j : ℕ). pushed c.args.w c.args.u (piece c.args.ws.now c.args.f c.args.grid.levels j)) c.args.ws.now c.loop-piece.ws c.args.dst 0 0 c.in-Some.piece.from c.in-Some.piece.index = rw (g.index, g.begins) c.loop-piece.invariant.1 in
+    (g.walking, rw (g.after, g.counts) (emits_append (omega arith) (omega arith) g.order before (appended_new _ _ _ _ _ _ c.store.ensures) (λ j p q. c.add_square-q.ensures ∙ ap (pushed c.args.w c.args.u) (sym (g.is j p q)))))
 
 pub returns : goal.returns
-returns c = let e : c.loop-x.x ≡ c.args.levels = omega arith in made (rw e at c.loop-x.invariant.1)
+returns c = let e : c.loop-piece.pieces.from ≡ c.args.grid.levels = omega (arith, c.in_default.ensures, c.loop-piece.invariant.0.most) in made (rw e at c.loop-piece.invariant.1)

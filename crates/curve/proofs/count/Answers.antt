@@ -1,41 +1,37 @@
 -- `curve::count`: from piece to piece. Assumes nothing.
-use mathlib.Core.Logic.{inl}
 use mathlib.Core.Path.{◌≡◌, refl, ◌∙◌}
 use native.Mathlib.Omega.{arith}
 use Rattle.curve.specs.Lists.{start_zero, start_next}
-use Rattle.curve.proofs.Laws.{Here, here, at_start, at_step, counted}
-use Rattle.curve.proofs.count.Goals.{In-loop-x}
+use Rattle.curve.proofs.Laws.{counted}
+use Rattle.curve.proofs.Walks.{Given, given, walking_none, walk_room, seen_held}
+use Rattle.curve.proofs.count.Goals.{In-Some}
 use Rattle.curve.proofs.count.Goals as goal
 
-pub loop-x-init : goal.loop-x-init
-loop-x-init c = (omega arith, (at_start c.requires.0.formed, start_zero _ _))
+pub loop-n-init : goal.loop-n-init
+loop-n-init c = rw c.over-pieces.ensures (walking_none c.requires.0.formed, (start_zero _ _, refl))
 
-hf : (c : In-loop-x) → Here c.args.ws.now c.args.f c.args.levels c.loop-x.i c.loop-x.x
-hf c = here c.loop-x.invariant.1.0 c.loop-x-test.true
+pub next-requires : goal.next-requires
+next-requires c = walk_room c.loop-n.invariant.0 (seen_held c.requires.0 c.loop-n.invariant.0.at) c.args.levels (omega arith) c.requires.1
 
-pub overflow_mul-x : goal.overflow_mul-x
-overflow_mul-x c = omega (arith, (hf c).within c.requires.0.formed, c.requires.0.room)
+got : (c : In-Some) → Given c.args.ws.now c.args.f c.args.levels c.args.levels c.loop-n.pieces c.next.new.self c.in-Some.field-0
+got c = given c.loop-n.invariant.0 (seen_held c.requires.0 c.loop-n.invariant.0.at) (omega arith) c.in-Some.ensures
 
-pub overflow_add-x : goal.overflow_add-x
-overflow_add-x c = omega (arith, (hf c).within c.requires.0.formed, c.requires.0.room)
+pub overflow_add-n : goal.overflow_add-n
+overflow_add-n c = let g = got (goal.at.overflow_add-n c).In-Some in omega (arith, g.most, g.index, c.loop-n.invariant.1.1, c.requires.1)
 
-pub offset_bounds-ws-f : goal.offset_bounds-ws-f
-offset_bounds-ws-f c = omega (arith, (hf c).within c.requires.0.formed, c.requires.0.room)
-
-pub bounds-ws-f : goal.bounds-ws-f
-bounds-ws-f c = omega (arith, (hf (goal.at.bounds-ws-f c).In-loop-x).within c.requires.0.formed, c.requires.0.room)
-
-pub overflow_add-x-in-loop-x : goal.overflow_add-x-in-loop-x
-overflow_add-x-in-loop-x c = omega (arith, (hf (goal.at.overflow_add-x-in-loop-x c).In-loop-x).to)
-
-pub overflow_add-i : goal.overflow_add-i
-overflow_add-i c = omega (arith, (hf (goal.at.overflow_add-i c).In-loop-x).index)
-
-pub loop-x-smaller : goal.loop-x-smaller
-loop-x-smaller c = omega (arith, (hf (goal.at.loop-x-smaller c).In-loop-x).from)
-
-pub loop-x-preserved : goal.loop-x-preserved
-loop-x-preserved c = (omega (arith, (hf (goal.at.loop-x-preserved c).In-loop-x).to), (at_step _ _ c.loop-x.invariant.1.0 c.loop-x-test.true (hf (goal.at.loop-x-preserved c).In-loop-x).from (omega arith) (inl (refl, refl)), start_next _ _ _))
+pub loop-n-preserved : goal.loop-n-preserved
+loop-n-preserved c =
+    let g = got (goal.at.loop-n-preserved c).In-Some in
+    let i = c.loop-n.invariant in
+    let p = c.in-Some.ensures in
+    let l = i.0.list in
+    let to = p.to in
+    let next = p.next in
+    let after = g.after in
+    let n = i.1.1 in
+    (g.walking, (start_next _ _ _ ∙ (cc), cc))
 
 pub returns : goal.returns
-returns c = let e : c.loop-x.x ≡ c.args.levels = omega arith in counted c.loop-x.invariant.1.0 (c.loop-x.invariant.1.1 ∙ e)
+returns c =
+    let e : c.loop-n.pieces.from ≡ c.args.levels = omega (arith, c.in_default.ensures, c.loop-n.invariant.0.most) in
+    rw c.loop-n.invariant.1.1 (counted c.loop-n.invariant.0.at (rw c.loop-n.invariant.1.1 at c.loop-n.invariant.1.0 ∙ e))

@@ -1,12 +1,12 @@
 -- `curve::count`: from piece to piece. Assumes nothing.
 use mathlib.Core.Path.{◌≡◌}
-use Prim.Native.Nat.{◌-◌, ◌≤◌}
+use Prim.Native.Nat.{◌-◌}
 use Rattle.curve.specs.Pieces.{start_of}
-use Rattle.curve.proofs.Laws.{At}
+use Rattle.curve.proofs.Walks.{Walking}
 use Rattle.curve.proofs.count.Given as goal
 
-abbrev pub invariant-loop-x : goal.invariant-loop-x
-invariant-loop-x l = (l.x ≤ l.levels) × (At l.ws l.f l.levels l.i l.x × (start_of l.ws l.f l.i ≡ l.x))
+abbrev pub invariant-loop-n : goal.invariant-loop-n
+invariant-loop-n l = Walking l.ws l.f l.levels l.pieces × ((start_of l.ws l.f l.n ≡ l.pieces.from) × (l.n ≡ l.pieces.index))
 
-abbrev pub decreases-loop-x : goal.decreases-loop-x
-decreases-loop-x l = l.levels - l.x
+abbrev pub decreases-loop-n : goal.decreases-loop-n
+decreases-loop-n l = l.levels - l.pieces.from

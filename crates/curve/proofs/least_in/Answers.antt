@@ -1,67 +1,39 @@
 -- `curve::least_in`: the least so far, piece by piece. Assumes nothing.
-use mathlib.Core.Logic.{inl}
-use mathlib.Core.Path.{refl, sym, ◌∙◌, ap}
+use mathlib.Core.Path.{ap}
 use Prim.Native.Nat.{◌+◌}
 use native.Mathlib.Omega.{arith}
 use Rattle.quadratic.specs.Quad.{Quad, quad, value}
 use Rattle.curve.specs.Pieces.{piece}
-use Rattle.curve.proofs.Laws.{Here, here, at_start, at_step}
+use Rattle.curve.proofs.Laws.{min_is, max_is}
+use Rattle.curve.proofs.Walks.{Given, given, walking_none, walk_room, seen_held}
 use Rattle.curve.proofs.Prefix.{fine_on, fine_most, till_none, till_step, till_in}
-use Rattle.curve.proofs.least_in.Goals.{In-loop-x}
+use Rattle.curve.proofs.least_in.Goals.{In-Some}
 use Rattle.curve.proofs.least_in.Goals as goal
 
-pub overflow_add-best : goal.overflow_add-best
-overflow_add-best c = omega arith
+pub loop-piece-init : goal.loop-piece-init
+loop-piece-init c = rw c.over-pieces.ensures (walking_none c.requires.held.formed, till_none _ _ _)
 
-pub loop-x-init : goal.loop-x-init
-loop-x-init c = (omega arith, (at_start c.requires.held.0.formed, till_none _ _ _))
+pub next-requires : goal.next-requires
+next-requires c = walk_room c.loop-piece.invariant.0 (seen_held c.requires.held c.loop-piece.invariant.0.at) (c.args.to + 1) (omega (arith, c.requires.to_lt_levels)) (omega (arith, c.args.grid.within))
 
-hf : (c : In-loop-x) → Here c.args.ws.now c.args.f c.args.levels c.loop-x.i c.loop-x.x
-hf c = here c.loop-x.invariant.1.0 (omega (arith, c.loop-x-test, c.requires.to_lt_levels))
-
-pub overflow_mul-at : goal.overflow_mul-at
-overflow_mul-at c = omega (arith, (hf c).within c.requires.held.0.formed, c.requires.held.0.room)
-
-pub overflow_add-at : goal.overflow_add-at
-overflow_add-at c = omega (arith, (hf c).within c.requires.held.0.formed, c.requires.held.0.room)
-
-pub offset_bounds-ws-at : goal.offset_bounds-ws-at
-offset_bounds-ws-at c = omega (arith, (hf c).within c.requires.held.0.formed, c.requires.held.0.room)
-
-pub bounds-ws-at : goal.bounds-ws-at
-bounds-ws-at c = omega (arith, (hf (goal.at.bounds-ws-at c).In-loop-x).within c.requires.held.0.formed, c.requires.held.0.room)
-
-pub load-p-requires : goal.load-p-requires
-load-p-requires c = omega (arith, (hf (goal.at.load-p-requires c).In-loop-x).within c.requires.held.0.formed, c.requires.held.0.room)
-
-pub greater-a-requires : goal.greater-a-requires
-greater-a-requires c = tt
-
-pub lesser-b-requires : goal.lesser-b-requires
-lesser-b-requires c = tt
+-- the piece
+got : (c : In-Some) → Given c.args.ws.now c.args.f c.args.grid.levels (c.args.to + 1) c.loop-piece.pieces c.next.new.self c.in-Some.piece
+got c = given c.loop-piece.invariant.0 (seen_held c.requires.held c.loop-piece.invariant.0.at) (omega (arith, c.requires.to_lt_levels)) c.in-Some.ensures
 
 pub lower-best-requires : goal.lower-best-requires
-lower-best-requires c = let l = c.lesser-b.ensures.0 in let g = c.greater-a.ensures.0 in
-    let w = fine_on (piece c.args.ws.now c.args.f c.args.levels) _ _ _ _ (quad c.load-p.result) c.requires.held.1 c.requires.by_index (hf (goal.at.lower-best-requires c).In-loop-x).from (hf (goal.at.lower-best-requires c).In-loop-x).to (λ j p q. (hf (goal.at.lower-best-requires c).In-loop-x).is j p q ∙ sym c.load-p.ensures) in
-    record { small = (w.0, λ v p q. w.1 v (omega (arith, g)) (omega (arith, l))); b_bound = omega (arith, l, c.requires.to_lt_levels, c.requires.held.1) }
+lower-best-requires c =
+    let g = got (goal.at.lower-best-requires c).In-Some in
+    let a = (max_is _ _ _ c.max-a.ensures).0 in
+    let b = (min_is _ _ _ c.min-b.ensures).0 in
+    let w = fine_on (piece c.args.ws.now c.args.f c.args.grid.levels) _ _ _ _ (quad c.in-Some.piece.q) c.args.grid.within c.requires.by_index g.order g.to g.is in
+    record { small = (w.0, λ v p q. w.1 v (omega (arith, a)) (omega (arith, b))); b_bound = omega (arith, b, c.requires.to_lt_levels, c.args.grid.within, c.loop-piece.invariant.1.changes) }
 
-pub overflow_add-i : goal.overflow_add-i
-overflow_add-i c = omega (arith, (hf (goal.at.overflow_add-i c).In-loop-x).index, c.requires.held.1)
-
-pub overflow_add-x : goal.overflow_add-x
-overflow_add-x c = omega (arith, (hf (goal.at.overflow_add-x c).In-loop-x).to, c.requires.held.1)
-
-pub loop-x-smaller : goal.loop-x-smaller
-loop-x-smaller c = omega (arith, (hf (goal.at.loop-x-smaller c).In-loop-x).from, (hf (goal.at.loop-x-smaller c).In-loop-x).to)
-
-pub loop-x-preserved : goal.loop-x-preserved
-loop-x-preserved c = (
-  omega (arith, (hf (goal.at.loop-x-preserved c).In-loop-x).to),
-  (
-    at_step _ _ c.loop-x.invariant.1.0 (omega (arith, c.loop-x-test, c.requires.to_lt_levels)) (hf (goal.at.loop-x-preserved c).In-loop-x).from (omega arith) (inl (refl, refl)),
-    till_step _ _ _ _ _ _ _ c.args.base (quad c.load-p.result) _ _ c.loop-x.invariant.1.1 (hf (goal.at.loop-x-preserved c).In-loop-x).from (λ j p q. ap (λ (k : Quad). value k (c.args.base + j)) ((hf (goal.at.loop-x-preserved c).In-loop-x).is j p q ∙ sym c.load-p.ensures)) c.greater-a.ensures.0 c.greater-a.ensures.1 c.lesser-b.ensures.0 c.lesser-b.ensures.1 c.lower-best.ensures,
-  ),
-)
+pub loop-piece-preserved : goal.loop-piece-preserved
+loop-piece-preserved c =
+    let g = got (goal.at.loop-piece-preserved c).In-Some in
+    let a = max_is _ _ _ c.max-a.ensures in
+    let b = min_is _ _ _ c.min-b.ensures in
+    (g.walking, rw g.after (till_step _ _ _ _ _ _ _ c.args.grid.base (quad c.in-Some.piece.q) _ _ (rw g.begins c.loop-piece.invariant.1) g.order (λ j p q. ap (λ (k : Quad). value k (c.args.grid.base + j)) (g.is j p q)) a.0 a.1 b.0 b.1 c.lower-best.ensures))
 
 pub returns : goal.returns
-returns c = till_in _ _ _ _ _ c.loop-x.invariant.1.1 (omega arith) (λ h. omega (arith, fine_most (piece c.args.ws.now c.args.f c.args.levels) _ _ c.requires.held.1 c.requires.by_index c.args.from (omega (arith, c.requires.to_lt_levels))))
+returns c = till_in _ _ _ _ _ c.loop-piece.invariant.1 (omega (arith, c.in_default.ensures)) (λ h. omega (arith, fine_most (piece c.args.ws.now c.args.f c.args.grid.levels) _ _ c.args.grid.within c.requires.by_index c.args.from (omega (arith, c.requires.to_lt_levels))))

@@ -1,69 +1,56 @@
 -- `curve::running_min`: the least so far, piece by piece. Assumes nothing.
-use mathlib.Core.Logic.{inl}
-use mathlib.Core.Path.{◌≡◌, refl, sym, ◌∙◌, subst}
-use Prim.Native.Nat.{ℕ, ◌+◌, ◌-◌, ◌≤◌}
+use mathlib.Core.Path.{◌≡◌, subst}
+use Prim.Native.Nat.{ℕ, ◌+◌, ◌-◌, ◌≤◌, ◌<◌}
 use native.Mathlib.Omega.{arith}
 use Rattle.quadratic.specs.Quad.{Quad, quad, Small, down, up}
 use Rattle.curve.specs.Lists.{emits_none, emits_then, made}
-use Rattle.curve.specs.Lows.{costs, lowest_zero, lowest_most}
-use Rattle.curve.specs.Pieces.{piece, end_of}
-use Rattle.curve.proofs.Laws.{Seen, seen, at_start}
-use Rattle.curve.proofs.running_min.Goals.{In-loop-x}
+use Rattle.curve.specs.Lows.{best_of, costs, lowest, prefix_of, lowest_zero, lowest_most}
+use Rattle.curve.specs.Pieces.{Emits, piece}
+use Rattle.curve.proofs.Laws.{Seen}
+use Rattle.curve.proofs.Walks.{Given, given, walking_none, walk_room, sees}
+use Rattle.curve.proofs.running_min.Goals.{At-loop-piece, In-Some}
 use Rattle.curve.proofs.running_min.Goals as goal
 
-pub overflow_add-run : goal.overflow_add-run
-overflow_add-run c = omega arith
+pub loop-piece-init : goal.loop-piece-init
+loop-piece-init c = rw c.over-pieces.ensures ((walking_none c.requires.lent.0.formed, (omega (arith, lowest_zero (costs c.args.grid.base (piece c.args.ws.now c.args.f c.args.grid.levels))), omega arith)), emits_none _ _ _ _ _)
 
-pub loop-x-init : goal.loop-x-init
-loop-x-init c = ((omega arith, (at_start c.requires.lent.0.formed, (omega (arith, lowest_zero (costs c.args.base (piece c.args.ws.now c.args.f c.args.levels))), omega arith))), emits_none _ _ _ _ _)
+-- the list that is read, by its state at entry
+sf : (c : At-loop-piece) → c.loop-piece.pieces.from < c.args.grid.levels → Seen c.args.ws.now c.loop-piece.ws c.args.f c.args.grid.levels c.loop-piece.pieces.index c.loop-piece.pieces.from
+sf c = let i = c.loop-piece.invariant in sees i.0.0 i.1.kept (omega (arith, i.1.count (omega arith), i.0.0.most)) c.requires.lent.0
 
-sf : (c : In-loop-x) → Seen c.args.ws.now c.loop-x.ws c.args.f c.args.levels c.loop-x.i c.loop-x.x
-sf c = seen c.loop-x.invariant.1.kept (omega (arith, c.loop-x.invariant.1.count (omega arith))) c.requires.lent.0 c.loop-x.invariant.0.1.0 c.loop-x-test.true
+pub next-requires : goal.next-requires
+next-requires c = walk_room c.loop-piece.invariant.0.0 (sf (goal.at.next-requires c).At-loop-piece) c.args.grid.levels (omega arith) (omega (arith, c.args.grid.within))
 
-pub overflow_mul-at : goal.overflow_mul-at
-overflow_mul-at c = omega (arith, (sf c).room)
-
-pub overflow_add-at : goal.overflow_add-at
-overflow_add-at c = omega (arith, (sf c).room)
-
-pub offset_bounds-ws-at : goal.offset_bounds-ws-at
-offset_bounds-ws-at c = omega (arith, (sf c).room)
-
-pub bounds-ws-at : goal.bounds-ws-at
-bounds-ws-at c = omega (arith, (sf (goal.at.bounds-ws-at c).In-loop-x).room)
-
-pub load-p-requires : goal.load-p-requires
-load-p-requires c = (sf (goal.at.load-p-requires c).In-loop-x).room
+-- the piece
+got : (c : In-Some) → Given c.args.ws.now c.args.f c.args.grid.levels c.args.grid.levels c.loop-piece.pieces c.next.new.self c.in-Some.piece
+got c = given c.loop-piece.invariant.0.0 (sf (goal.at-In-Some c).At-loop-piece) (omega arith) c.in-Some.ensures
 
 pub running_min_on-run-requires : goal.running_min_on-run-requires
-running_min_on-run-requires c = let i = c.loop-x.invariant in
-    let e : (j : ℕ) → c.loop-x.x ≤ j → j ≤ end_of c.loop-x.ws c.args.f c.loop-x.i → piece c.args.ws.now c.args.f c.args.levels j ≡ quad c.load-p.result = λ j p q. (sf (goal.at.running_min_on-run-requires c).In-loop-x).is j p q ∙ sym c.load-p.ensures in record {
+running_min_on-run-requires c =
+    let i = c.loop-piece.invariant in
+    let g = got (goal.at.running_min_on-run-requires c).In-Some in
+    record {
       small = (
-        subst Small (e c.loop-x.x (omega arith) (sf (goal.at.running_min_on-run-requires c).In-loop-x).from) (c.requires.by_index c.loop-x.x c.loop-x-test.true).0,
-        λ v p q. let w : c.args.base + (v - c.args.base) ≡ v = omega arith in
-            subst (λ (n : ℕ). down (quad c.load-p.result) n ≤ up (quad c.load-p.result) n) w
-            (subst (λ (k : Quad). down k (c.args.base + (v - c.args.base)) ≤ up k (c.args.base + (v - c.args.base))) (e (v - c.args.base) (omega arith) (omega arith)) (c.requires.by_index (v - c.args.base) (omega (arith, (sf (goal.at.running_min_on-run-requires c).In-loop-x).to))).1),
+        subst Small (g.is c.in-Some.piece.from (omega arith) g.order) (c.requires.by_index c.in-Some.piece.from g.inside).0,
+        λ v p q. let w : c.args.grid.base + (v - c.args.grid.base) ≡ v = omega arith in
+            subst (λ (n : ℕ). down (quad c.in-Some.piece.q) n ≤ up (quad c.in-Some.piece.q) n) w
+            (subst (λ (k : Quad). down k (c.args.grid.base + (v - c.args.grid.base)) ≤ up k (c.args.grid.base + (v - c.args.grid.base))) (g.is (v - c.args.grid.base) (omega arith) (omega arith)) (c.requires.by_index (v - c.args.grid.base) (omega (arith, g.to))).1),
       );
-      n_le_a = ((i.1.count (omega arith), (sf (goal.at.running_min_on-run-requires c).In-loop-x).from), (omega (arith, (sf (goal.at.running_min_on-run-requires c).In-loop-x).to, c.requires.levels_bound), (omega (arith, i.0.1.1, lowest_most (costs c.args.base (piece c.args.ws.now c.args.f c.args.levels)) c.loop-x.x), i.0.1.1.1)));
-      e_in_bounds = omega (arith, (sf (goal.at.running_min_on-run-requires c).In-loop-x).to, i.1.kept.size, c.requires.lent);
+      n_le_a = ((omega (arith, i.1.count (omega arith), g.begins), g.order), (omega (arith, g.to, c.args.grid.within), (omega (arith, i.0.1.0, lowest_most (costs c.args.grid.base (piece c.args.ws.now c.args.f c.args.grid.levels)) c.loop-piece.pieces.from), i.0.1.1)));
+      e_in_bounds = omega (arith, g.to, i.1.kept.size, c.requires.lent.1);
     }
 
-pub overflow_add-i : goal.overflow_add-i
-overflow_add-i c = omega (arith, (sf (goal.at.overflow_add-i c).In-loop-x).index, c.requires.levels_bound)
+pub loop-piece-smaller : goal.loop-piece-smaller
+loop-piece-smaller c = let g = got (goal.at.loop-piece-smaller c).In-Some in omega (arith, g.after, g.begins, g.order, g.inside)
 
-pub overflow_add-x : goal.overflow_add-x
-overflow_add-x c = omega (arith, (sf (goal.at.overflow_add-x c).In-loop-x).to, c.requires.levels_bound)
-
-pub loop-x-smaller : goal.loop-x-smaller
-loop-x-smaller c = omega (arith, (sf (goal.at.loop-x-smaller c).In-loop-x).from, c.loop-x-test)
-
-pub loop-x-preserved : goal.loop-x-preserved
-loop-x-preserved c = let i = c.loop-x.invariant in
-    let o = c.running_min_on-run.ensures.on (piece c.args.ws.now c.args.f c.args.levels) (λ j p q. (sf (goal.at.loop-x-preserved c).In-loop-x).is j p q ∙ sym c.load-p.ensures) i.0.1.1.0 in
-    ((omega (arith, (sf (goal.at.loop-x-preserved c).In-loop-x).to), ((sf (goal.at.loop-x-preserved c).In-loop-x).step _ _ (sf (goal.at.loop-x-preserved c).In-loop-x).from (omega arith) (inl (refl, refl)), (o.1, c.running_min_on-run.ensures.changes))), emits_then (omega arith) (omega (arith, (sf (goal.at.loop-x-preserved c).In-loop-x).from)) i.1 o.0)
-
-pub shape_of-ws : goal.shape_of-ws
-shape_of-ws c = c.loop-x.invariant.1.kept.size
+pub loop-piece-preserved : goal.loop-piece-preserved
+loop-piece-preserved c =
+    let i = c.loop-piece.invariant in
+    let g = got (goal.at.loop-piece-preserved c).In-Some in
+    let before : Emits (prefix_of c.args.grid.base (piece c.args.ws.now c.args.f c.args.grid.levels)) c.args.ws.now c.loop-piece.ws c.args.dst 0 0 c.in-Some.piece.from c.loop-piece.run.n = rw g.begins i.1 in
+    let least : lowest (costs c.args.grid.base (piece c.args.ws.now c.args.f c.args.grid.levels)) c.in-Some.piece.from ≡ best_of c.loop-piece.run = rw g.begins i.0.1.0 in
+    let o = c.running_min_on-run.ensures.on (piece c.args.ws.now c.args.f c.args.grid.levels) g.is least in
+    ((g.walking, (rw g.after o.1, c.running_min_on-run.ensures.changes)), rw g.after (emits_then (omega arith) (omega (arith, g.order)) before o.0))
 
 pub returns : goal.returns
-returns c = let e : c.loop-x.x ≡ c.args.levels = omega arith in made (rw e at c.loop-x.invariant.1)
+returns c = let e : c.loop-piece.pieces.from ≡ c.args.grid.levels = omega (arith, c.in_default.ensures, c.loop-piece.invariant.0.0.most) in made (rw e at c.loop-piece.invariant.1)

@@ -1,9 +1,9 @@
-use mathlib.Core.Path.{◌≡◌, refl, ap, subst}
+use mathlib.Core.Path.{◌≡◌, refl, ap₂, subst}
 use Prim.Native.Nat.{ℕ, ◌+◌, ◌-◌}
 use native.Mathlib.Omega.{arith}
 use Rattle.integers.specs.Pairs.{lex}
 use Rattle.quadratic.specs.Quad.{quad, Lowest}
-use Rattle.quadratic.specs.Fine.{late_is, late_most}
+use Rattle.quadratic.specs.Fine.{late_is}
 use Rattle.curve.specs.Lows.{Drops}
 use Rattle.curve.proofs.Prefix.{prefix_flat, prefix_falls}
 use Rattle.curve.proofs.running_min_on.Goals.{After-lowest_min}
@@ -13,29 +13,8 @@ lw : (c : After-lowest_min) → Lowest (quad c.args.p) (c.args.base + c.args.a) 
 lw c = let e : c.lowest_min.result ≡ c.args.base + (c.lowest_min.result - c.args.base) = omega (arith, c.lowest_min.ensures.1.low) in
     subst (Lowest (quad c.args.p) (c.args.base + c.args.a) (c.args.base + c.args.e)) e c.lowest_min.ensures.1
 
-pub eval-w-requires : goal.eval-w-requires
-eval-w-requires c = (c.requires.small.0, (omega (arith, (lw c).high, c.requires.n_le_a), c.requires.small.1 _ (lw c).low (lw c).high))
-
-pub overflow_add-limit : goal.overflow_add-limit
-overflow_add-limit c = omega (arith, c.requires.n_le_a.1.1, c.more_changes.ensures, late_most c.args.run.changes (quad c.args.p).k)
-
-pub constant_to-all-requires : goal.constant_to-all-requires
-constant_to-all-requires c = omega (arith, c.requires)
-
-pub returns-then-limit-w : goal.returns-then-limit-w
-returns-then-limit-w c = record { on = λ F f z. prefix_flat _ _ _ _ _ _ c.requires.small.1 (lw (goal.at.returns-then-limit-w c).After-lowest_min) (ap (λ (x : ℕ). lex x (quad c.args.p).k) c.eval-w.ensures.0) F f _ _ c.requires.n_le_a.1.1.1 c.requires.n_le_a.0.1 ((late_is c.args.run.best c.args.run.changes c.eval-w.result (quad c.args.p).k (omega (arith, c.requires.n_le_a.1.1.1)) (omega (arith, c.requires.small.0.few))).0 (omega (arith, c.more_changes.ensures, c.if-limit-w.true))) z c.constant_to-all.ensures; changes = c.requires.n_le_a.1.1.1 }
-
-pub first_below-s-requires : goal.first_below-s-requires
-first_below-s-requires c = let l = lw (goal.at.first_below-s-requires c).After-lowest_min in record { small = ((c.requires.small.0, omega (arith, c.requires.n_le_a.1.1, c.more_changes.ensures, late_most c.args.run.changes (quad c.args.p).k)), (omega (arith, l.low), omega (arith, l.high, c.requires.n_le_a))); over = omega (arith, c.if-limit-w.false, c.eval-w.ensures.0, c.requires.small.1 _ l.low l.high) }
-
-pub constant_to-before-requires : goal.constant_to-before-requires
-constant_to-before-requires c = let d = c.first_below-s.ensures in let l = lw (goal.at.constant_to-before-requires c).After-lowest_min in omega (arith, d.low, d.high, l.high, c.requires)
-
-pub append-fallen-requires : goal.append-fallen-requires
-append-fallen-requires c = let d = c.first_below-s.ensures in let l = lw (goal.at.append-fallen-requires c).After-lowest_min in omega (arith, d.high, c.constant_to-before.ensures.count c.requires.n_le_a.0.0, l.high, c.constant_to-before.ensures.kept.size, c.requires.e_in_bounds)
-
-pub constant_to-after-requires : goal.constant_to-after-requires
-constant_to-after-requires c = let d = c.first_below-s.ensures in let l = lw (goal.at.constant_to-after-requires c).After-lowest_min in ((omega (arith, d.high, c.constant_to-before.ensures.count c.requires.n_le_a.0.0, c.append-fallen.ensures.count), omega (arith, l.high)), (omega (arith, c.constant_to-before.ensures.kept.size, c.append-fallen.ensures.kept.size, c.requires.e_in_bounds), c.requires.small.0.few))
+pub returns-then-limit-least : goal.returns-then-limit-least
+returns-then-limit-least c = record { on = λ F f z. prefix_flat _ _ _ _ _ _ c.requires.small.1 (lw (goal.at.returns-then-limit-least c).After-lowest_min) (ap₂ lex c.eval-least.ensures.0.0 c.eval-least.ensures.0.1) F f _ _ c.requires.n_le_a.1.1.1 c.requires.n_le_a.0.1 ((late_is c.args.run.best.value c.args.run.best.changes c.eval-least.result.value c.eval-least.result.changes (omega (arith, c.requires.n_le_a.1.1.1)) (omega (arith, c.requires.small.0.few, c.eval-least.ensures.0.1))).0 (omega (arith, c.more_changes.ensures, c.if-limit-least.true))) z c.constant_to-all.ensures; changes = c.requires.n_le_a.1.1.1 }
 
 pub returns : goal.returns
-returns c = record { on = λ F f z. prefix_falls _ _ _ _ _ _ c.requires.small.1 (lw (goal.at.returns c).After-lowest_min) (ap (λ (x : ℕ). lex x (quad c.args.p).k) c.eval-w.ensures.0) F f c.args.run.best c.args.run.changes c.eval-w.result _ c.requires.n_le_a.1.1.1 c.requires.small.0.few refl c.requires.n_le_a.0.0 (omega (arith, (lw (goal.at.returns c).After-lowest_min).high)) (subst (λ (n : ℕ). Drops (quad c.args.p) (c.args.run.best + n) c.args.a (c.lowest_min.result - c.args.base) c.args.base c.first_below-s.result) c.more_changes.ensures c.first_below-s.ensures) z c.constant_to-before.ensures c.append-fallen.ensures c.constant_to-after.ensures; changes = c.requires.small.0.few }
+returns c = record { on = λ F f z. prefix_falls _ _ _ _ _ _ c.requires.small.1 (lw (goal.at.returns c).After-lowest_min) (ap₂ lex c.eval-least.ensures.0.0 c.eval-least.ensures.0.1) F f c.args.run.best.value c.args.run.best.changes c.eval-least.result.value c.eval-least.result.changes _ c.eval-least.ensures.0.1 c.requires.n_le_a.1.1.1 (omega (arith, c.requires.small.0.few, c.eval-least.ensures.0.1)) refl c.requires.n_le_a.0.0 (omega (arith, (lw (goal.at.returns c).After-lowest_min).high)) (subst (λ (n : ℕ). Drops (quad c.args.p) (c.args.run.best.value + n) c.args.a (c.lowest_min.result - c.args.base) c.args.base c.first_below-s.result) c.more_changes.ensures c.first_below-s.ensures) z c.constant_to-before.ensures c.append-fallen.ensures c.constant_to-after.ensures; changes = omega (arith, c.requires.small.0.few, c.eval-least.ensures.0.1) }

@@ -1,98 +1,59 @@
 -- `curve::shift`: none up to the gap, then piece by piece, the last one cut. Assumes nothing.
-use mathlib.Core.Logic.{⊎_elim}
-use mathlib.Core.Path.{◌≡◌, sym, ◌∙◌, ap, subst}
-use Prim.Native.Nat.{◌+◌, ◌-◌, ◌*◌, ◌≤◌, ◌<◌}
+use mathlib.Core.Path.{◌≡◌, sym, ◌∙◌, subst}
+use Prim.Native.Nat.{◌+◌, ◌-◌, ◌*◌, ◌<◌, min}
 use native.Mathlib.Omega.{arith}
-use Rattle.quadratic.specs.Quad.{moved, Sized}
+use Rattle.quadratic.specs.Quad.{Sized}
 use Rattle.curve.specs.Lists.{emits_none, emits_append, emits_then, emits_as, made, lent_kept, lent_piece}
-use Rattle.curve.specs.Pieces.{piece, Lent}
-use Rattle.curve.proofs.Laws.{small, Seen, seen, at_start, shift_none, shift_moved, shift_same}
-use Rattle.curve.proofs.shift.Goals.{After-constant_to-n, After-lesser-y, In-loop-x}
+use Rattle.curve.specs.Pieces.{Emits, piece, shift_of, Lent}
+use Rattle.curve.proofs.Laws.{min_is, small, Seen, shift_none, shift_moved, shift_same}
+use Rattle.curve.proofs.Walks.{Given, given, walking_none, walk_room, sees}
+use Rattle.curve.proofs.shift.Goals.{After-constant_to-n, At-loop-piece, In-Some}
 use Rattle.curve.proofs.shift.Goals as goal
 
-pub constant_to-requires : goal.constant_to-requires
-constant_to-requires c = omega arith
-
-pub shape_of-ws-then-levels-gap : goal.shape_of-ws-then-levels-gap
-shape_of-ws-then-levels-gap c = omega arith
-
-pub returns-then-levels-gap : goal.returns-then-levels-gap
-returns-then-levels-gap c = made (emits_as (λ j u v. shift_none c.args.gap j (piece c.args.ws.now c.args.f c.args.levels) (omega arith)) c.constant_to.ensures)
-
-pub constant_to-n-requires : goal.constant_to-n-requires
-constant_to-n-requires c = omega arith
+pub returns-then-grid-gap : goal.returns-then-grid-gap
+returns-then-grid-gap c = made (emits_as (λ j u v. shift_none c.args.gap j (piece c.args.ws.now c.args.f c.args.grid.levels) (omega arith)) c.constant_to.ensures)
 
 -- the list that is read, after none was written
-lent : (c : After-constant_to-n) → Lent c.constant_to-n.new.ws c.args.f c.args.dst (4 * c.args.levels) c.args.levels
+lent : (c : After-constant_to-n) → Lent c.constant_to-n.new.ws c.args.f c.args.dst (4 * c.args.grid.levels) c.args.grid.levels
 lent c = lent_kept c.constant_to-n.ensures.kept (omega (arith, c.constant_to-n.ensures.count (omega arith))) c.requires.lent.0
 
-sf : (c : In-loop-x) → Seen c.constant_to-n.new.ws c.loop-x.ws c.args.f c.args.levels c.loop-x.i c.loop-x.x
-sf c = seen c.loop-x.invariant.1.kept (omega (arith, c.loop-x.invariant.1.count (c.constant_to-n.ensures.count (omega arith)))) (lent c.before.before.before.before) c.loop-x.invariant.0.1 (omega arith)
+sf : (c : At-loop-piece) → c.loop-piece.pieces.from < c.args.grid.levels → Seen c.constant_to-n.new.ws c.loop-piece.ws c.args.f c.args.grid.levels c.loop-piece.pieces.index c.loop-piece.pieces.from
+sf c = let i = c.loop-piece.invariant in sees i.0 i.1.kept (omega (arith, i.1.count (c.constant_to-n.ensures.count (omega arith)))) (lent (goal.at-At-loop-piece c).After-constant_to-n)
 
-pub loop-x-init : goal.loop-x-init
-loop-x-init c = let e : 0 + c.args.gap ≡ c.args.gap = omega arith in ((omega arith, at_start (lent (goal.at.loop-x-init c).After-constant_to-n).formed), rw e (emits_none _ _ _ _ _))
+pub loop-piece-init : goal.loop-piece-init
+loop-piece-init c = let e : min 0 (c.args.grid.levels - c.args.gap) + c.args.gap ≡ c.args.gap = omega arith in rw c.over-pieces.ensures (walking_none (lent (goal.at.loop-piece-init c).After-constant_to-n).formed, rw e (emits_none _ _ _ _ _))
 
-pub overflow_add-x : goal.overflow_add-x
-overflow_add-x c = omega arith
+pub next-requires : goal.next-requires
+next-requires c = walk_room c.loop-piece.invariant.0 (sf (goal.at.next-requires c).At-loop-piece) (c.args.grid.levels - c.args.gap) (omega arith) (omega (arith, c.args.grid.within))
 
-pub overflow_mul-at : goal.overflow_mul-at
-overflow_mul-at c = omega (arith, (sf c).room)
-
-pub overflow_add-at : goal.overflow_add-at
-overflow_add-at c = omega (arith, (sf c).room)
-
-pub offset_bounds-ws-at : goal.offset_bounds-ws-at
-offset_bounds-ws-at c = omega (arith, (sf c).room)
-
-pub bounds-ws-at : goal.bounds-ws-at
-bounds-ws-at c = omega (arith, (sf (goal.at.bounds-ws-at c).In-loop-x).room)
-
-pub load-p-requires : goal.load-p-requires
-load-p-requires c = (sf (goal.at.load-p-requires c).In-loop-x).room
+-- the piece
+got : (c : In-Some) → Given c.constant_to-n.new.ws c.args.f c.args.grid.levels (c.args.grid.levels - c.args.gap) c.loop-piece.pieces c.next.new.self c.in-Some.piece
+got c = given c.loop-piece.invariant.0 (sf (goal.at-In-Some c).At-loop-piece) (omega arith) c.in-Some.ensures
 
 pub shift-q-requires : goal.shift-q-requires
-shift-q-requires c = (small (subst Sized (sym (lent_piece c.constant_to-n.ensures.kept (omega (arith, c.constant_to-n.ensures.count (omega arith))) c.requires.lent.0 c.loop-x.x (omega arith)) ∙ (sf (goal.at.shift-q-requires c).In-loop-x).is c.loop-x.x (omega arith) (sf (goal.at.shift-q-requires c).In-loop-x).from ∙ sym c.load-p.ensures) (c.requires.by_index c.loop-x.x (omega arith))), c.requires.gap_bound.0)
+shift-q-requires c =
+    let g = got (goal.at.shift-q-requires c).In-Some in
+    let e = lent_piece c.constant_to-n.ensures.kept (omega (arith, c.constant_to-n.ensures.count (omega arith))) c.requires.lent.0 c.in-Some.piece.from (omega (arith, g.inside)) in
+    (small (subst Sized (sym e ∙ g.is c.in-Some.piece.from (omega arith) g.order) (c.requires.by_index c.in-Some.piece.from (omega (arith, g.inside)))), c.requires.gap_bound)
 
-pub overflow_sub-levels : goal.overflow_sub-levels
-overflow_sub-levels c = omega arith
+pub loop-piece-smaller : goal.loop-piece-smaller
+loop-piece-smaller c = let g = got (goal.at.loop-piece-smaller c).In-Some in omega (arith, g.after, g.begins, g.order, g.inside)
 
-pub overflow_sub-levels-in-loop-x : goal.overflow_sub-levels-in-loop-x
-overflow_sub-levels-in-loop-x c = omega arith
-
-pub lesser-y-requires : goal.lesser-y-requires
-lesser-y-requires c = omega arith
-
-ys : (c : After-lesser-y) → (c.loop-x.x ≤ c.lesser-y.result) × (c.lesser-y.result + c.args.gap < c.args.levels)
-ys c = (⊎_elim (λ p. omega (arith, (sf c.before.before.before.before).from)) (λ p. omega (arith, c.loop-x-test)) c.lesser-y.ensures.1, omega (arith, c.lesser-y.ensures.0.1, c.loop-x-test))
-
-pub overflow_add-y : goal.overflow_add-y
-overflow_add-y c = omega (arith, (ys (goal.at.overflow_add-y c).After-lesser-y).1)
-
-pub append-n-requires : goal.append-n-requires
-append-n-requires c = let y = ys (goal.at.append-n-requires c).After-lesser-y in let i = c.loop-x.invariant.1 in omega (arith, y, i.count (c.constant_to-n.ensures.count (omega arith)), i.kept.size, c.constant_to-n.ensures.kept.size, c.requires.lent)
-
-pub next-i-requires : goal.next-i-requires
-next-i-requires c = omega (arith, (sf (goal.at.next-i-requires c).In-loop-x).index, c.requires.gap_bound)
-
-pub overflow_add-x-in-loop-x : goal.overflow_add-x-in-loop-x
-overflow_add-x-in-loop-x c = omega (arith, (ys (goal.at.overflow_add-x-in-loop-x c).After-lesser-y).1)
-
-pub loop-x-smaller : goal.loop-x-smaller
-loop-x-smaller c = omega (arith, ys (goal.at.loop-x-smaller c).After-lesser-y, c.loop-x-test)
-
-pub loop-x-preserved : goal.loop-x-preserved
-loop-x-preserved c = let y = ys (goal.at.loop-x-preserved c).After-lesser-y in let l = c.lesser-y in let e : l.result + c.args.gap + 1 ≡ l.result + 1 + c.args.gap = omega arith in (
-  (omega (arith, y.1), (sf (goal.at.loop-x-preserved c).In-loop-x).step l.result c.next-i.result y.0 l.ensures.0.0 c.next-i.ensures),
-  rw e at (emits_append (c.constant_to-n.ensures.count (omega arith)) (omega arith) (omega (arith, y.0)) c.loop-x.invariant.1 c.append-n.ensures
-      (λ j p q. c.shift-q.ensures ∙ ap (moved c.args.gap) c.load-p.ensures ∙ shift_moved c.args.gap j (piece c.constant_to-n.new.ws c.args.f c.args.levels) _ (omega arith) ((sf (goal.at.loop-x-preserved c).In-loop-x).is (j - c.args.gap) (omega arith) (omega (arith, l.ensures.0.0))))),
-)
-
-pub shape_of-ws : goal.shape_of-ws
-shape_of-ws c = c.loop-x.invariant.1.kept.size ∙ c.constant_to-n.ensures.kept.size
+pub loop-piece-preserved : goal.loop-piece-preserved
+loop-piece-preserved c =
+    let g = got (goal.at.loop-piece-preserved c).In-Some in
+    let m = min_is _ _ _ c.min-y.ensures in
+    let before : Emits (shift_of c.args.gap (piece c.constant_to-n.new.ws c.args.f c.args.grid.levels)) c.constant_to-n.new.ws c.loop-piece.ws c.args.dst c.constant_to-n.result c.args.gap (c.in-Some.piece.from + c.args.gap) c.loop-piece.n =
+    let e : min c.loop-piece.pieces.from (c.args.grid.levels - c.args.gap) + c.args.gap ≡ c.in-Some.piece.from + c.args.gap = omega (arith, g.inside, g.begins) in rw e at c.loop-piece.invariant.1 in
+    let e : c.min-y.result + c.args.gap + 1 ≡ min c.next.new.self.from (c.args.grid.levels - c.args.gap) + c.args.gap = omega (arith, g.after, g.inside, c.min-y.ensures) in (
+      g.walking,
+      rw e at (emits_append (c.constant_to-n.ensures.count (omega arith)) (omega arith) (omega (arith, g.order, g.inside, c.min-y.ensures)) before c.append-n.ensures
+          (λ j p q. c.shift-q.ensures ∙ shift_moved c.args.gap j (piece c.constant_to-n.new.ws c.args.f c.args.grid.levels) _ (omega arith) (g.is (j - c.args.gap) (omega arith) (omega (arith, m.0.0))))),
+    )
 
 pub returns : goal.returns
-returns c = let e : c.loop-x.x + c.args.gap ≡ c.args.levels = omega arith in
+returns c = let e : min c.loop-piece.pieces.from (c.args.grid.levels - c.args.gap) + c.args.gap ≡ c.args.grid.levels = omega (arith, c.in_default.ensures) in
     let l = lent_piece c.constant_to-n.ensures.kept (omega (arith, c.constant_to-n.ensures.count (omega arith))) c.requires.lent.0 in
     made (emits_then (omega arith) (omega arith)
-    (emits_as (λ j u v. shift_none c.args.gap j (piece c.args.ws.now c.args.f c.args.levels) v) c.constant_to-n.ensures)
-    (emits_as (λ j u v. shift_same c.args.gap j c.args.levels _ _ l v) (rw e at c.loop-x.invariant.1)))
+    (emits_as (λ j u v. shift_none c.args.gap j (piece c.args.ws.now c.args.f c.args.grid.levels) v) c.constant_to-n.ensures)
+    (emits_as (λ j u v. shift_same c.args.gap j c.args.grid.levels _ _ l v) (rw e at c.loop-piece.invariant.1)))

@@ -1,63 +1,31 @@
 -- `curve::two_least`: the two least so far, piece by piece. Assumes nothing.
-use mathlib.Core.Logic.{inl}
-use mathlib.Core.Path.{◌≡◌, refl, sym, ◌∙◌, ap}
-use Prim.Native.Nat.{◌+◌, ◌*◌, ◌≤◌}
+use mathlib.Core.Path.{ap}
+use Prim.Native.Nat.{◌+◌}
 use native.Mathlib.Omega.{arith}
-use lib.ListN.{length}
 use Rattle.quadratic.specs.Quad.{Quad, quad, value}
 use Rattle.curve.specs.Pieces.{piece}
-use Rattle.curve.proofs.Laws.{Here, here, at_start, at_step}
+use Rattle.curve.proofs.Walks.{Given, given, walking_none, walk_room, seen_held}
 use Rattle.curve.proofs.Prefix.{fine_on, fine_most}
 use Rattle.curve.proofs.Second.{two_none}
-use Rattle.curve.proofs.two_least.Goals.{In-loop-x}
+use Rattle.curve.proofs.two_least.Goals.{In-Some}
 use Rattle.curve.proofs.two_least.Goals as goal
 
-pub loop-x-init : goal.loop-x-init
-loop-x-init c = (omega arith, (at_start c.requires.held.0.formed, two_none _))
+pub loop-piece-init : goal.loop-piece-init
+loop-piece-init c = rw c.over-pieces.ensures (walking_none c.requires.held.0.formed, two_none _)
 
-hf : (c : In-loop-x) → Here c.args.ws.now c.args.f c.args.levels c.loop-x.i c.loop-x.x
-hf c = here c.loop-x.invariant.1.0 c.loop-x-test.true
+pub next-requires : goal.next-requires
+next-requires c = walk_room c.loop-piece.invariant.0 (seen_held c.requires.held.0 c.loop-piece.invariant.0.at) c.args.grid.levels (omega arith) (omega (arith, c.args.grid.within))
 
-room : (c : In-loop-x) → c.args.f + 4 * c.loop-x.i + 4 ≤ length c.args.ws.now
-room c = let l = c.requires.held.0 in omega (arith, (hf c).within l.formed, l.room)
-
-pub overflow_mul-at : goal.overflow_mul-at
-overflow_mul-at c = omega (arith, room c)
-
-pub overflow_add-at : goal.overflow_add-at
-overflow_add-at c = omega (arith, room c)
-
-pub offset_bounds-ws-at : goal.offset_bounds-ws-at
-offset_bounds-ws-at c = omega (arith, room c)
-
-pub bounds-ws-at : goal.bounds-ws-at
-bounds-ws-at c = omega (arith, room (goal.at.bounds-ws-at c).In-loop-x)
-
-pub load-p-requires : goal.load-p-requires
-load-p-requires c = room (goal.at.load-p-requires c).In-loop-x
+-- the piece
+got : (c : In-Some) → Given c.args.ws.now c.args.f c.args.grid.levels c.args.grid.levels c.loop-piece.pieces c.next.new.self c.in-Some.piece
+got c = given c.loop-piece.invariant.0 (seen_held c.requires.held.0 c.loop-piece.invariant.0.at) (omega arith) c.in-Some.ensures
 
 pub lower_two-best-requires : goal.lower_two-best-requires
-lower_two-best-requires c =
-    let w = fine_on (piece c.args.ws.now c.args.f c.args.levels) _ _ _ _ (quad c.load-p.result) c.requires.held.1.1 c.requires.by_index (hf (goal.at.lower_two-best-requires c).In-loop-x).from (hf (goal.at.lower_two-best-requires c).In-loop-x).to (λ j p q. (hf (goal.at.lower_two-best-requires c).In-loop-x).is j p q ∙ sym c.load-p.ensures) in
-    record { small = w; a_le_e = ((hf (goal.at.lower_two-best-requires c).In-loop-x).from, (c.requires.held.1.0, omega (arith, (hf (goal.at.lower_two-best-requires c).In-loop-x).to, c.requires.held.1.1))) }
+lower_two-best-requires c = let g = got (goal.at.lower_two-best-requires c).In-Some in record {
+  small = fine_on (piece c.args.ws.now c.args.f c.args.grid.levels) _ _ _ _ (quad c.in-Some.piece.q) c.args.grid.within c.requires.by_index g.order g.to g.is;
+  a_le_e = omega (arith, g.order, g.to, c.requires.held.1, c.args.grid.within, c.loop-piece.invariant.1.changes, c.loop-piece.invariant.1.second_changes);
+}
 
-pub overflow_add-i : goal.overflow_add-i
-overflow_add-i c = omega (arith, (hf (goal.at.overflow_add-i c).In-loop-x).index, c.requires.held.1.1)
-
-pub overflow_add-x : goal.overflow_add-x
-overflow_add-x c = omega (arith, (hf (goal.at.overflow_add-x c).In-loop-x).to, c.requires.held.1.1)
-
-pub loop-x-smaller : goal.loop-x-smaller
-loop-x-smaller c = omega (arith, (hf (goal.at.loop-x-smaller c).In-loop-x).from, (hf (goal.at.loop-x-smaller c).In-loop-x).to)
-
-pub loop-x-preserved : goal.loop-x-preserved
-loop-x-preserved c = (
-  omega (arith, (hf (goal.at.loop-x-preserved c).In-loop-x).to),
-  (
-    at_step _ _ c.loop-x.invariant.1.0 c.loop-x-test.true (hf (goal.at.loop-x-preserved c).In-loop-x).from (omega arith) (inl (refl, refl)),
-    c.lower_two-best.ensures.on _ (λ j p q. (ap (λ (k : Quad). value k (c.args.base + j)) ((hf (goal.at.loop-x-preserved c).In-loop-x).is j p q ∙ sym c.load-p.ensures), fine_most (piece c.args.ws.now c.args.f c.args.levels) _ _ c.requires.held.1.1 c.requires.by_index j (omega (arith, (hf (goal.at.loop-x-preserved c).In-loop-x).to)))) c.loop-x.invariant.1.1,
-  ),
-)
-
-pub returns : goal.returns
-returns c = let e : c.loop-x.x ≡ c.args.levels = omega arith in rw e at c.loop-x.invariant.1.1
+pub loop-piece-preserved : goal.loop-piece-preserved
+loop-piece-preserved c = let g = got (goal.at.loop-piece-preserved c).In-Some in
+    (g.walking, rw g.after (c.lower_two-best.ensures.on _ (λ j p q. (ap (λ (k : Quad). value k (c.args.grid.base + j)) (g.is j p q), fine_most (piece c.args.ws.now c.args.f c.args.grid.levels) _ _ c.args.grid.within c.requires.by_index j (omega (arith, g.to)))) (rw g.begins c.loop-piece.invariant.1)))

@@ -1,12 +1,12 @@
 -- `curve::two_least`: the two least so far, piece by piece. Assumes nothing.
-use Prim.Native.Nat.{◌-◌, ◌≤◌}
+use Prim.Native.Nat.{◌-◌}
 use Rattle.curve.specs.Lows.{costs, TwoLeast}
 use Rattle.curve.specs.Pieces.{piece}
-use Rattle.curve.proofs.Laws.{At}
+use Rattle.curve.proofs.Walks.{Walking}
 use Rattle.curve.proofs.two_least.Given as goal
 
-abbrev pub invariant-loop-x : goal.invariant-loop-x
-invariant-loop-x l = (l.x ≤ l.levels) × (At l.ws l.f l.levels l.i l.x × TwoLeast (costs l.base (piece l.ws l.f l.levels)) l.x l.best)
+abbrev pub invariant-loop-piece : goal.invariant-loop-piece
+invariant-loop-piece l = Walking l.ws l.f l.grid.levels l.pieces × TwoLeast (costs l.grid.base (piece l.ws l.f l.grid.levels)) l.pieces.from l.best
 
-abbrev pub decreases-loop-x : goal.decreases-loop-x
-decreases-loop-x l = l.levels - l.x
+abbrev pub decreases-loop-piece : goal.decreases-loop-piece
+decreases-loop-piece l = l.grid.levels - l.pieces.from

@@ -1,7 +1,7 @@
 -- `curve::value_at`: the piece at the level is the first that does not end before it. Assumes nothing.
 use mathlib.Core.List.{List}
 use mathlib.Core.Logic.{inl}
-use mathlib.Core.Path.{◌≡◌, refl, sym, ◌∙◌, ap, subst}
+use mathlib.Core.Path.{◌≡◌, refl, sym, ◌∙◌, ap, ap₂, subst}
 use Prim.Native.Nat.{ℕ, ◌+◌, ◌*◌, ◌≤◌, ◌<◌}
 use native.Mathlib.Omega.{arith}
 use lib.ListN.{length}
@@ -33,22 +33,22 @@ piece_there : {ws : List ℕ} {o L j i : ℕ} → From ws o L j i → j < L → 
 piece_there f h k = (there f h).is _ f.1 k
 
 pub loop-i-init : goal.loop-i-init
-loop-i-init c = from_start c.requires.held.0
+loop-i-init c = from_start c.requires.held
 
 pub overflow_mul-i : goal.overflow_mul-i
-overflow_mul-i c = omega (arith, room c.requires.held.0 c.loop-i.invariant c.requires.j_lt_levels)
+overflow_mul-i c = omega (arith, room c.requires.held c.loop-i.invariant c.requires.j_lt_levels)
 
 pub overflow_add-f : goal.overflow_add-f
-overflow_add-f c = omega (arith, room c.requires.held.0 c.loop-i.invariant c.requires.j_lt_levels)
+overflow_add-f c = omega (arith, room c.requires.held c.loop-i.invariant c.requires.j_lt_levels)
 
 pub offset_bounds-ws-f : goal.offset_bounds-ws-f
-offset_bounds-ws-f c = omega (arith, room c.requires.held.0 c.loop-i.invariant c.requires.j_lt_levels)
+offset_bounds-ws-f c = omega (arith, room c.requires.held c.loop-i.invariant c.requires.j_lt_levels)
 
 pub bounds-ws-f : goal.bounds-ws-f
-bounds-ws-f c = omega (arith, room c.requires.held.0 c.loop-i.invariant c.requires.j_lt_levels)
+bounds-ws-f c = omega (arith, room c.requires.held c.loop-i.invariant c.requires.j_lt_levels)
 
 pub overflow_add-i : goal.overflow_add-i
-overflow_add-i c = omega (arith, (there c.loop-i.invariant c.requires.j_lt_levels).index, c.requires.held.1)
+overflow_add-i c = omega (arith, (there c.loop-i.invariant c.requires.j_lt_levels).index, c.args.grid.within)
 
 pub loop-i-smaller : goal.loop-i-smaller
 loop-i-smaller c = omega (arith, (there c.loop-i.invariant c.requires.j_lt_levels).index)
@@ -57,30 +57,27 @@ pub loop-i-preserved : goal.loop-i-preserved
 loop-i-preserved c = from_next c.loop-i.invariant c.requires.j_lt_levels c.loop-i-test.true
 
 pub overflow_mul-i-2 : goal.overflow_mul-i-2
-overflow_mul-i-2 c = omega (arith, room c.requires.held.0 c.loop-i.invariant c.requires.j_lt_levels)
+overflow_mul-i-2 c = omega (arith, room c.requires.held c.loop-i.invariant c.requires.j_lt_levels)
 
 pub overflow_add-f-2 : goal.overflow_add-f-2
-overflow_add-f-2 c = omega (arith, room c.requires.held.0 c.loop-i.invariant c.requires.j_lt_levels)
+overflow_add-f-2 c = omega (arith, room c.requires.held c.loop-i.invariant c.requires.j_lt_levels)
 
 pub load-p-requires : goal.load-p-requires
-load-p-requires c = room c.requires.held.0 c.loop-i.invariant c.requires.j_lt_levels
-
-pub overflow_add-base : goal.overflow_add-base
-overflow_add-base c = omega (arith, c.requires.held.1, c.requires.j_lt_levels)
+load-p-requires c = room c.requires.held c.loop-i.invariant c.requires.j_lt_levels
 
 -- the piece is in range
-whole : (c : After-load-p) → Small (quad c.load-p.result) × ((v : ℕ) → c.args.base + c.args.j ≤ v → v ≤ c.args.base + c.args.j → down (quad c.load-p.result) v ≤ up (quad c.load-p.result) v)
+whole : (c : After-load-p) → Small (quad c.load-p.result) × ((v : ℕ) → c.args.grid.base + c.args.j ≤ v → v ≤ c.args.grid.base + c.args.j → down (quad c.load-p.result) v ≤ up (quad c.load-p.result) v)
 whole c =
-    let is : (i : ℕ) → c.args.j ≤ i → i ≤ c.args.j → piece c.args.ws.now c.args.f c.args.levels i ≡ quad c.load-p.result = λ i p q. let e : i ≡ c.args.j = omega arith in ap (piece c.args.ws.now c.args.f c.args.levels) e ∙ piece_there c.loop-i.invariant c.requires.j_lt_levels c.loop-i-test.false ∙ sym c.load-p.ensures in
-    fine_on (piece c.args.ws.now c.args.f c.args.levels) _ c.args.base c.args.j c.args.j (quad c.load-p.result) c.requires.held.1 c.requires.by_index (omega arith) c.requires.j_lt_levels is
+    let is : (i : ℕ) → c.args.j ≤ i → i ≤ c.args.j → piece c.args.ws.now c.args.f c.args.grid.levels i ≡ quad c.load-p.result = λ i p q. let e : i ≡ c.args.j = omega arith in ap (piece c.args.ws.now c.args.f c.args.grid.levels) e ∙ piece_there c.loop-i.invariant c.requires.j_lt_levels c.loop-i-test.false ∙ sym c.load-p.ensures in
+    fine_on (piece c.args.ws.now c.args.f c.args.grid.levels) _ c.args.grid.base c.args.j c.args.j (quad c.load-p.result) c.args.grid.within c.requires.by_index (omega arith) c.requires.j_lt_levels is
 
-pub eval-value-requires : goal.eval-value-requires
-eval-value-requires c =
-    let w = whole c in
-    (w.0, (omega (arith, c.requires.held.1, c.requires.j_lt_levels), w.1 (c.args.base + c.args.j) (omega arith) (omega arith)))
+pub eval-requires : goal.eval-requires
+eval-requires c =
+    let w = whole (goal.at.eval-requires c).After-load-p in
+    (w.0, (omega (arith, c.args.grid.within, c.requires.j_lt_levels), w.1 (c.args.grid.base + c.args.j) (omega arith) (omega arith)))
 
 pub returns : goal.returns
 returns c = (
-  ap (λ (x : ℕ). lex x (quad c.load-p.result).k) c.eval-value.ensures.0 ∙ ap (λ (q : Quad). value q (c.args.base + c.args.j)) (c.load-p.ensures ∙ sym (piece_there c.loop-i.invariant c.requires.j_lt_levels c.loop-i-test.false)),
-  (whole (goal.at.returns c).After-load-p).0.few,
+  ap₂ lex c.eval.ensures.0.0 c.eval.ensures.0.1 ∙ ap (λ (q : Quad). value q (c.args.grid.base + c.args.j)) (c.load-p.ensures ∙ sym (piece_there c.loop-i.invariant c.requires.j_lt_levels c.loop-i-test.false)),
+  omega (arith, (whole (goal.at.returns c).After-load-p).0.few, c.eval.ensures.0.1),
 )

@@ -10,7 +10,7 @@ abbrev pub From : List ℕ → ℕ → ℕ → ℕ → ℕ → Type 0
 From ws o L j i = At ws o L i (start_of ws o i) × (start_of ws o i ≤ j)
 
 abbrev pub invariant-loop-i : goal.invariant-loop-i
-invariant-loop-i l = From l.ws l.f l.levels l.j l.i
+invariant-loop-i l = From l.ws l.f l.grid.levels l.j l.i
 
 abbrev pub decreases-loop-i : goal.decreases-loop-i
-decreases-loop-i l = l.levels - l.i
+decreases-loop-i l = l.grid.levels - l.i

@@ -10,7 +10,7 @@ pub mirror-requires : goal.mirror-requires
 mirror-requires c =
     let h = c.requires.into.0 in
     let l = c.requires.limits.0 in
-    record { lent = (curve_reads c.args.next c.requires.limits.1 h.f_next, h.room_next); le_base = (l.low, l.high); by_index = curve_turnable l c.requires.limits.1 }
+    record { lent = (curve_reads c.args.next c.requires.limits.1 h.f_next, h.room_next); le_base = l.low; by_index = curve_turnable l c.requires.limits.1 }
 
 pub running_min-requires : goal.running_min-requires
 running_min-requires c =
@@ -18,7 +18,7 @@ running_min-requires c =
     let l = c.requires.limits.0 in
     let m = c.mirror.ensures in
     let k = down1 h m l c.requires.limits.1 in
-    record { lent = (curve_reads c.args.work k h.next_work, omega (arith, h.room_work, m.kept.size)); levels_bound = l.high; by_index = curve_whole l k }
+    record { lent = (curve_reads c.args.work k h.next_work, omega (arith, h.room_work, m.kept.size)); by_index = curve_whole l k }
 
 pub shift-requires : goal.shift-requires
 shift-requires c =
@@ -27,7 +27,7 @@ shift-requires c =
     let m = c.mirror.ensures in
     let n = c.running_min.ensures in
     let k = down2 h m n l c.requires.limits.1 in
-    record { lent = (curve_reads c.args.next k (apart_swap c.args.next c.args.work (4 * c.args.levels) h.next_work), omega (arith, h.room_next, m.kept.size, n.kept.size)); gap_bound = (c.requires.into.1, omega (arith, l.high)); by_index = curve_sized l k }
+    record { lent = (curve_reads c.args.next k (apart_swap c.args.next c.args.work (4 * c.args.grid.levels) h.next_work), omega (arith, h.room_next, m.kept.size, n.kept.size)); gap_bound = c.requires.into.1; by_index = curve_sized l k }
 
 pub mirror-requires-2 : goal.mirror-requires-2
 mirror-requires-2 c =
@@ -37,7 +37,7 @@ mirror-requires-2 c =
     let n = c.running_min.ensures in
     let o = c.shift.ensures in
     let k = down3 h m n c.args.gap o l c.requires.limits.1 in
-    record { lent = (curve_reads c.args.work k h.next_work, omega (arith, h.room_work, m.kept.size, n.kept.size, o.kept.size)); le_base = (l.low, l.high); by_index = curve_turnable l k }
+    record { lent = (curve_reads c.args.work k h.next_work, omega (arith, h.room_work, m.kept.size, n.kept.size, o.kept.size)); le_base = l.low; by_index = curve_turnable l k }
 
 pub returns : goal.returns
 returns c =

@@ -8,7 +8,7 @@ use native.Mathlib.Omega.{arith}
 use Rattle.edges.proofs.least_before.Goals as goal
 
 pub least_in-requires : goal.least_in-requires
-least_in-requires c = let l = c.requires.limits.0 in record { held = (c.requires.limits.1.held, l.high); to_lt_levels = omega (arith, c.requires.j_lt_levels.0); by_index = curve_fine l c.requires.limits.1 }
+least_in-requires c = let l = c.requires.limits.0 in record { held = c.requires.limits.1.held; to_lt_levels = omega (arith, c.requires.j_lt_levels.0); by_index = curve_fine l c.requires.limits.1 }
 
 pub returns-in-0 : goal.returns-in-0
 returns-in-0 c = kind_least c.args.kind Stay c.args.j (kind_stay _ (sym c.kind_number-number.ensures ∙ c.in-0.is)) (range_least c.least_in.ensures (omega (arith, c.requires.j_lt_levels.0)) (λ i h p. (omega arith, omega arith)) (λ i p q. omega arith))

@@ -13,7 +13,7 @@ least_of_two-requires c =
     let x : count_limit - 1 + c.args.ch ≤ count_limit = omega (arith, c.requires.joint.1.1) in
     let y : cost_limit - c.args.pen + c.args.pen ≤ cost_limit = omega (arith, c.requires.joint.1.0) in
     let a = c.requires.sound.0 in
-    let g = c.requires.sound.1 in record { lent = (curve_reads c.args.next a h.acc_next, (curve_reads c.args.next g h.g_next, h.room_next)); pen_bound = (omega (arith, c.requires.joint.1), l.high); by_index = curve_sized l a; by_index_2 = curve_raised c.args.pen c.args.ch x y l g; by_index_3 = curve_yields c.args.pen c.args.ch x y l g a }
+    let g = c.requires.sound.1 in record { lent = (curve_reads c.args.next a h.acc_next, (curve_reads c.args.next g h.g_next, h.room_next)); pen_bound = omega (arith, c.requires.joint.1); by_index = curve_sized l a; by_index_2 = curve_raised c.args.pen c.args.ch x y l g; by_index_3 = curve_yields c.args.pen c.args.ch x y l g a }
 
 pub returns : goal.returns
 returns c = joined c.requires.joint.0 c.least_of_two.ensures

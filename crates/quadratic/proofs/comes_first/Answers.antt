@@ -21,7 +21,7 @@ pub overflow_add-result : goal.overflow_add-result
 overflow_add-result c = omega (arith, c.requires.1.1)
 
 pub overflow_sub-result : goal.overflow_sub-result
-overflow_sub-result c = omega (arith, c.more_changes.ensures, late_most c.args.j c.args.i)
+overflow_sub-result c = omega (arith, c.more_changes.ensures, late_most c.args.b.changes c.args.a.changes)
 
 pub returns : goal.returns
 returns c = pairs _ _ _ _ _ c.requires.0 c.requires.1.0 c.more_changes.ensures

@@ -4,4 +4,4 @@ use Rattle.curve.specs.Curve.{curve_fine}
 use Rattle.curve_test.proofs.run.value.Goals as goal
 
 pub value_at-requires : goal.value_at-requires
-value_at-requires c = let v = c.valid.ensures c.if-not-valid.false in record { held = (v.list.held, v.limits.high); j_lt_levels = c.if-levels-j.false; by_index = curve_fine (within v) v.list }
+value_at-requires c = let v = c.valid.ensures c.if-valid.true in record { held = v.list.held; j_lt_levels = c.if-j-grid.true; by_index = curve_fine (within v) v.list }
