@@ -76,9 +76,9 @@ fn is_within(l: Label, t: usize) -> bool
 // The label that has boundary t, looked up in the plan's list of numbers. Labels stand in order, so going down from the last one the first that starts
 // at t or before decides: those below it end before it starts.
 #[tactic(auto, unfolding(model::specs::Labels::label_on))]
-pub fn label_on(plan: Plan, code: &[u64], t: usize) -> Option<Label>
-    requires { Checked plan × Coded plan code.now }
-    ensures { label_of result ≡ label_on plan t }
+pub fn label_on(plan: &Plan, code: &[u64], t: usize) -> Option<Label>
+    requires { Checked plan.now × Coded plan.now code.now }
+    ensures { label_of result ≡ label_on plan.now t }
 {
     for i in (0..coded::label_count(code)).rev() {
         let l = coded::label_in(code, i);
@@ -105,9 +105,9 @@ fn used(on: Option<Label>) -> usize
 
 // How many counts are kept apart after t readings.
 #[tactic(auto, using(crate::proofs::Boundary::used_here))]
-pub fn counts_at(plan: Plan, code: &[u64], t: usize) -> usize
-    requires { Checked plan × Coded plan code.now }
-    ensures { (result ≡ used_at plan t) × (result ≤ counts) }
+pub fn counts_at(plan: &Plan, code: &[u64], t: usize) -> usize
+    requires { Checked plan.now × Coded plan.now code.now }
+    ensures { (result ≡ used_at plan.now t) × (result ≤ counts) }
 {
     used(label_on(plan, code, t))
 }
