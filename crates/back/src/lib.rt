@@ -10,14 +10,13 @@ ghost use Rattle.model.specs.Held.{Table};
 ghost use Rattle.model.specs.Ends.{point_at};
 ghost use Rattle.model.specs.Labels.{used};
 ghost use Rattle.layer.specs.Layer.{ShapeOf};
-ghost use Rattle.coded.specs.Coded.{Coded};
 ghost use Rattle.labels.specs.Boundary.{label_of};
 ghost use Rattle.back.specs.Step.{MayOffer, Offers, meets_at, BackReady, StepTo};
 ghost use Rattle.back.specs.Read.{Readable, Reads, EndTo};
 
 use curve::Low;
-use layer::Shape;
-use plan::{Edge, Label, Plan};
+use layer::{Problem, Shape};
+use plan::{Edge, Label};
 
 // A cost with its changes, and the state and the level's index that have it.
 #[derive(Clone, Copy)]
@@ -29,16 +28,16 @@ pub struct End {
 }
 
 // The better of the best end so far and the best of state s, which comes later.
-fn better_end(ws: &[u64], plan: Plan, cur: usize, g: Shape, s: usize, best: End) -> End
-    requires { Readable 1 cur g ws.now × (ShapeOf plan g × ((s < plan.states) × (best.changes ≤ count_limit))) }
-    ensures { (result.changes ≤ count_limit) × ((H : Table) → Reads 1 cur g ws.now H → EndTo plan H s best → EndTo plan H (s + 1) result) }
+fn better_end(ws: &[u64], problem: &Problem, cur: usize, s: usize, best: End) -> End
+    requires { Readable 1 cur problem.now.shape ws.now × (ShapeOf problem.now.plan.now problem.now.shape × ((s < problem.now.plan.now.states) × (best.changes ≤ count_limit))) }
+    ensures { (result.changes ≤ count_limit) × ((H : Table) → Reads 1 cur problem.now.shape ws.now H → EndTo problem.now.plan.now H s best → EndTo problem.now.plan.now H (s + 1) result) }
 {
-    if !layer::in_set(plan.end, s) {
+    if !layer::in_set(problem.plan.end, s) {
         return best;
     }
-    let levels = g.levels;
-    let f = layer::list_at(cur, g, 0, s);
-    let low = curve::least_in(ws, f, 0, levels - 1, levels, g.base);
+    let levels = problem.shape.levels;
+    let f = layer::list_at(cur, problem.shape, 0, s);
+    let low = curve::least_in(ws, f, 0, levels - 1, levels, problem.shape.base);
     if quadratic::comes_first(low.value, low.changes, best.value, best.changes) {
         End {
             value: low.value,
@@ -53,9 +52,9 @@ fn better_end(ws: &[u64], plan: Plan, cur: usize, g: Shape, s: usize, best: End)
 
 // The cheapest end in the end set: fewest changes, then lowest state, then lowest level. None, state 0 and level 0 where there is none. No label is
 // open at the end, so the lists of count 0 are all that is read.
-pub fn best_end(ws: &[u64], plan: Plan, cur: usize, g: Shape) -> End
-    requires { Readable 1 cur g ws.now × ShapeOf plan g }
-    ensures { (result.changes ≤ count_limit) × ((H : Table) → Reads 1 cur g ws.now H → EndTo plan H plan.states result) }
+pub fn best_end(ws: &[u64], problem: &Problem, cur: usize) -> End
+    requires { Readable 1 cur problem.now.shape ws.now × ShapeOf problem.now.plan.now problem.now.shape }
+    ensures { (result.changes ≤ count_limit) × ((H : Table) → Reads 1 cur problem.now.shape ws.now H → EndTo problem.now.plan.now H problem.now.plan.now.states result) }
 {
     let mut best = End {
         value: quadratic::NONE,
@@ -63,8 +62,8 @@ pub fn best_end(ws: &[u64], plan: Plan, cur: usize, g: Shape) -> End
         state: 0,
         level: 0,
     };
-    for s in 0..g.states {
-        best = better_end(ws, plan, cur, g, s, best);
+    for s in 0..problem.shape.states {
+        best = better_end(ws, problem, cur, s, best);
     }
     best
 }
@@ -131,8 +130,7 @@ pub struct Step {
 // changes, from its lowest level. Edges and levels of the same cost and more changes are passed over. None where there is no such edge.
 pub fn step_back(
     ws: &[u64],
-    plan: Plan,
-    code: &[u64],
+    problem: &Problem,
     on: Option<Label>,
     t: usize,
     cur: usize,
@@ -141,14 +139,13 @@ pub fn step_back(
     j: u64,
     want: u64,
     changes: u64,
-    g: Shape,
 ) -> Option<Step>
-    requires { Readable (used (label_of on)) cur g ws.now × ((BackReady plan (label_of on) t k s j g × (changes ≤ count_limit)) × Coded plan code.now) }
-    ensures { (H : Table) → Reads (used (label_of on)) cur g ws.now H → StepTo plan t H k s j (lex want changes) result }
+    requires { Readable (used (label_of on)) cur problem.now.shape ws.now × (BackReady problem.now.plan.now (label_of on) t k s j problem.now.shape × (changes ≤ count_limit)) }
+    ensures { (H : Table) → Reads (used (label_of on)) cur problem.now.shape ws.now H → StepTo problem.now.plan.now t H k s j (lex want changes) result }
 {
-    for i in 0..plan.edgecount {
-        let e = coded::edge_in(code, i);
-        let low = offer_of(ws, e, on, t, cur, k, s, j, g);
+    for i in 0..problem.plan.edgecount {
+        let e = coded::edge_in(problem.code, i);
+        let low = offer_of(ws, e, on, t, cur, k, s, j, problem.shape);
         let pen = plan::penalty_of(e.class);
         let ch = labels::change_of(e.kind) as u64;
         if meets(low, pen, ch, want, changes) {

@@ -12,6 +12,20 @@ ghost use Rattle.labels.specs.Boundary.{label_of, leads_from};
 
 use plan::{Edge, Kind, Label, Plan};
 
+// The boundary after t readings, and the label that has it.
+#[derive(Clone, Copy)]
+pub struct Boundary {
+    pub t: usize,
+    pub label: Option<Label>,
+}
+
+// Which list of a layer: that of the ways to a state with a count.
+#[derive(Clone, Copy)]
+pub struct Key {
+    pub count: usize,
+    pub state: usize,
+}
+
 // Up to this c a label asks for c changes, above it for one change of a kind.
 const MOST_CHANGES: u8 = 7;
 
@@ -76,9 +90,9 @@ fn is_within(l: Label, t: usize) -> bool
 // The label that has boundary t, looked up in the plan's list of numbers. Labels stand in order, so going down from the last one the first that starts
 // at t or before decides: those below it end before it starts.
 #[tactic(auto, unfolding(model::specs::Labels::label_on))]
-pub fn label_on(plan: Plan, code: &[u64], t: usize) -> Option<Label>
-    requires { Checked plan × Coded plan code.now }
-    ensures { label_of result ≡ label_on plan t }
+pub fn label_on(plan: &Plan, code: &[u64], t: usize) -> Option<Label>
+    requires { Checked plan.now × Coded plan.now code.now }
+    ensures { label_of result ≡ label_on plan.now t }
 {
     for i in (0..coded::label_count(code)).rev() {
         let l = coded::label_in(code, i);
@@ -104,10 +118,10 @@ fn used(on: Option<Label>) -> usize
 }
 
 // How many counts are kept apart after t readings.
-#[tactic(auto, using(crate::proofs::Boundary::used_here))]
-pub fn counts_at(plan: Plan, code: &[u64], t: usize) -> usize
-    requires { Checked plan × Coded plan code.now }
-    ensures { (result ≡ used_at plan t) × (result ≤ counts) }
+#[tactic(auto, using(crate::proofs::Covering::used_here))]
+pub fn counts_at(plan: &Plan, code: &[u64], t: usize) -> usize
+    requires { Checked plan.now × Coded plan.now code.now }
+    ensures { (result ≡ used_at plan.now t) × (result ≤ counts) }
 {
     used(label_on(plan, code, t))
 }
@@ -120,44 +134,50 @@ fn closes(l: Label, t: usize) -> bool
     t + 1 == l.q as usize
 }
 
-// The count before boundary t, from the count k after it.
+// The count before a boundary, from the count k after it.
 #[tactic(auto, unfolding(model::specs::Labels::count_before))]
-pub fn count_before(on: Option<Label>, t: usize, x: Kind, k: usize) -> usize
-    requires { (t < 65536) × (k < 65536) }
-    ensures { (result ≡ count_before (label_of on) t x k) × (result < 65536) }
+pub fn count_before(boundary: Boundary, x: Kind, k: usize) -> usize
+    requires { (boundary.t < 65536) × (k < 65536) }
+    ensures { (result ≡ count_before (label_of boundary.label) boundary.t x k) × (result < 65536) }
 {
-    match on {
+    match boundary.label {
         None => 0,
         Some(l) => {
-            let after = if closes(l, t) { need_of(l) } else { k };
+            let after = if closes(l, boundary.t) { need_of(l) } else { k };
             after.saturating_sub(mark_of(l, x))
         }
     }
 }
 
-// The count after boundary t, from the count k before it.
+// The count after a boundary, from the count k before it.
 #[tactic(auto, unfolding(model::specs::Labels::count_after))]
-fn count_after(on: Option<Label>, t: usize, x: Kind, k: usize) -> usize
-    requires { (t < 65536) × (k < 65536) }
-    ensures { result ≡ count_after (label_of on) t x k }
+fn count_after(boundary: Boundary, x: Kind, k: usize) -> usize
+    requires { (boundary.t < 65536) × (k < 65536) }
+    ensures { result ≡ count_after (label_of boundary.label) boundary.t x k }
 {
-    match on {
+    match boundary.label {
         None => 0,
-        Some(l) => { if closes(l, t) { 0 } else { k + mark_of(l, x) } }
+        Some(l) => {
+            if closes(l, boundary.t) {
+                0
+            } else {
+                k + mark_of(l, x)
+            }
+        }
     }
 }
 
-// The label's rule is kept at boundary t, with the count k before it.
+// The label's rule is kept at a boundary, with the count k before it.
 #[tactic(auto, unfolding(model::specs::Labels::label_test))]
-fn label_test(on: Option<Label>, t: usize, x: Kind, k: usize) -> bool
-    requires { (t < 65536) × (k < 65536) }
-    ensures { result ≡ label_test (label_of on) t x k }
+fn label_test(boundary: Boundary, x: Kind, k: usize) -> bool
+    requires { (boundary.t < 65536) × (k < 65536) }
+    ensures { result ≡ label_test (label_of boundary.label) boundary.t x k }
 {
-    match on {
+    match boundary.label {
         None => k == 0,
         Some(l) => {
             let after = k + mark_of(l, x);
-            if closes(l, t) {
+            if closes(l, boundary.t) {
                 after == need_of(l)
             } else {
                 after <= need_of(l)
@@ -166,16 +186,16 @@ fn label_test(on: Option<Label>, t: usize, x: Kind, k: usize) -> bool
     }
 }
 
-// The edge may lead at boundary t to state s with count k.
+// The edge may lead at a boundary to the list: to its state with its count.
 #[tactic(auto, unfolding(crate::specs::Boundary::leads_from))]
-pub fn leads(on: Option<Label>, t: usize, e: Edge, k: usize, s: usize) -> bool
-    requires { (t < 65536) × (k < 65536) }
-    ensures { result ≡ leads_from (label_of on) t e k s }
+pub fn leads(boundary: Boundary, e: Edge, key: Key) -> bool
+    requires { (boundary.t < 65536) × (key.count < 65536) }
+    ensures { result ≡ leads_from (label_of boundary.label) boundary.t e key.count key.state }
 {
-    if s != e.to as usize {
+    if key.state != e.to as usize {
         return false;
     }
     let x = e.kind;
-    let before = count_before(on, t, x, k);
-    label_test(on, t, x, before) && k == count_after(on, t, x, before)
+    let before = count_before(boundary, x, key.count);
+    label_test(boundary, x, before) && key.count == count_after(boundary, x, before)
 }

@@ -6,15 +6,13 @@
 #![tactic(auto)]
 
 ghost use Rattle.std.specs.Prelude.{◌≡◌, ◌+◌, ◌*◌, ◌≤◌, ◌<◌, length};
-ghost use Rattle.coded.specs.Coded.{Coded};
 ghost use Rattle.model.specs.Checked.{Checked};
 ghost use Rattle.model.specs.Labels.{counts, used_at};
 ghost use Rattle.layer.specs.Layer.{Shape-small, ShapeOf, place_most};
 ghost use Rattle.saved.specs.Packed.{Row, PackReady, Saves, UnpackReady, Unpacked};
 ghost use Rattle.saved.specs.Walk.{most_slots, table_size, Workspace, At, Goes, Walked, Reached, Places, Stack, Pushed, Dropped, Restarted, Stops};
 
-use layer::{Origin, Shape};
-use plan::Plan;
+use layer::{Origin, Problem, Shape};
 
 // The words of the workspace for each state and level: those of two layers, and all of them.
 const FREE_AT: usize = 2 * layer::LAYER_WORDS;
@@ -46,11 +44,11 @@ fn area(g: Shape) -> usize
 }
 
 // How many lists the layer after t readings has.
-fn lists_at(plan: Plan, code: &[u64], g: Shape, t: usize) -> usize
-    requires { Checked plan × (ShapeOf plan g × Coded plan code.now) }
-    ensures { (result ≡ used_at plan t * plan.states) × (result ≤ 8 * counts) }
+fn lists_at(problem: &Problem, t: usize) -> usize
+    requires { Checked problem.now.plan.now × (ShapeOf problem.now.plan.now problem.now.shape) }
+    ensures { (result ≡ used_at problem.now.plan.now t * problem.now.plan.now.states) × (result ≤ 8 * counts) }
 {
-    labels::counts_at(plan, code, t) * g.states
+    labels::counts_at(problem.plan, problem.code, t) * problem.shape.states
 }
 
 // The n lists from o on, packed from at on: where they end, or none where they would reach past limit.
@@ -138,16 +136,13 @@ fn free_slots(words: usize, free: usize, slots: usize) -> usize
 // How far to go before the next layer is saved, where at most so many slots are used: to t once they are. The slots are a matter of speed alone.
 fn next_stop(
     ws: &[u64],
-    plan: Plan,
-    code: &[u64],
-    g: Shape,
+    problem: &Problem,
     walk: Walk,
     table: &[usize],
     t: usize,
     slots: usize,
 ) -> usize
-    requires stops { Stops plan g walk t table.now ws.now }
-    requires coded { Coded plan code.now }
+    requires stops { Stops problem.now.plan.now problem.now.shape walk t table.now ws.now }
     requires slots_le_most_slots { slots ≤ most_slots }
     ensures { (walk.time < result) × (result ≤ t) }
 {
@@ -155,9 +150,9 @@ fn next_stop(
     if slots <= n {
         return t;
     }
-    let free = ALL_WORDS * area(g) - table[SLOTS + n];
-    let lists = lists_at(plan, code, g, walk.time);
-    let words = words_of(ws, walk.cur, lists, g.levels);
+    let free = ALL_WORDS * area(problem.shape) - table[SLOTS + n];
+    let lists = lists_at(problem, walk.time);
+    let words = words_of(ws, walk.cur, lists, problem.shape.levels);
     let c = free_slots(words, free, slots - n);
     next_save(walk.time, t, c)
 }
@@ -188,22 +183,18 @@ fn drop_after(table: &[usize], count: usize, t: usize) -> usize
 // From the top saved layer, or from the first reading where none is saved.
 fn restart(
     ws: &mut [u64],
-    plan: Plan,
-    code: &[u64],
-    readings: &[i16],
-    g: Shape,
+    problem: &Problem,
     cur: usize,
     other: usize,
     table: &[usize],
     count: usize,
 ) -> Walk
-    requires workspace { Workspace plan readings.now g ws.old × (Places plan cur other × Stack plan readings.now count table.now ws.old) }
-    requires coded { Coded plan code.now }
-    ensures { Restarted plan readings.now count table.now ws.old ws.new result }
+    requires { Workspace problem.now.plan.now problem.now.readings.now problem.now.shape ws.old × (Places problem.now.plan.now cur other × Stack problem.now.plan.now problem.now.readings.now count table.now ws.old) }
+    ensures { Restarted problem.now.plan.now problem.now.readings.now count table.now ws.old ws.new result }
 {
     if count == 0 {
-        let free = FREE_AT * area(g);
-        layer::first_layer(ws, plan, code, readings, cur, free, g);
+        let free = FREE_AT * area(problem.shape);
+        layer::first_layer(ws, problem, cur, free);
         return Walk {
             time: 1,
             cur,
@@ -214,8 +205,8 @@ fn restart(
     let top = count - 1;
     let time = table[top];
     let at = table[SLOTS + top];
-    let lists = lists_at(plan, code, g, time);
-    unpack(ws, at, cur, lists, g.levels);
+    let lists = lists_at(problem, time);
+    unpack(ws, at, cur, lists, problem.shape.levels);
     Walk {
         time,
         cur,
@@ -225,20 +216,11 @@ fn restart(
 }
 
 // Forward to x, with nothing saved on the way.
-fn forward(
-    ws: &mut [u64],
-    plan: Plan,
-    code: &[u64],
-    readings: &[i16],
-    g: Shape,
-    walk: Walk,
-    x: usize,
-) -> Walk
-    requires goes { Goes plan readings.now g walk x ws.old }
-    requires coded { Coded plan code.now }
-    ensures { Reached plan readings.now x walk.count ws.old ws.new result }
+fn forward(ws: &mut [u64], problem: &Problem, walk: Walk, x: usize) -> Walk
+    requires { Goes problem.now.plan.now problem.now.readings.now problem.now.shape walk x ws.old }
+    ensures { Reached problem.now.plan.now problem.now.readings.now x walk.count ws.old ws.new result }
 {
-    let free = FREE_AT * area(g);
+    let free = FREE_AT * area(problem.shape);
     let mut cur = walk.cur;
     let mut other = walk.other;
     for time in walk.time..x {
@@ -246,7 +228,7 @@ fn forward(
             stays: cur,
             changes: cur,
         };
-        layer::next_layer(ws, plan, code, readings, time, from, other, free, g);
+        layer::next_layer(ws, problem, time, from, other, free);
         (cur, other) = (other, cur);
     }
     Walk {
@@ -260,28 +242,24 @@ fn forward(
 // Forward to x, where the layer is saved if it is not the last on the way to t and there is room.
 fn go_on(
     ws: &mut [u64],
-    plan: Plan,
-    code: &[u64],
-    readings: &[i16],
-    g: Shape,
+    problem: &Problem,
     walk: Walk,
     table: &mut [usize],
     x: usize,
     t: usize,
 ) -> Walk
-    requires goes { Goes plan readings.now g walk x ws.old × Stack plan readings.now walk.count table.old ws.old }
-    requires coded { Coded plan code.now }
-    ensures { Walked plan readings.now x table.new ws.old ws.new result }
+    requires { Goes problem.now.plan.now problem.now.readings.now problem.now.shape walk x ws.old × Stack problem.now.plan.now problem.now.readings.now walk.count table.old ws.old }
+    ensures { Walked problem.now.plan.now problem.now.readings.now x table.new ws.old ws.new result }
 {
-    let w = forward(ws, plan, code, readings, g, walk, x);
+    let w = forward(ws, problem, walk, x);
     let n = w.count;
     if t <= x || SLOTS <= n {
         return w;
     }
     let at = table[SLOTS + n];
-    let limit = ALL_WORDS * area(g);
-    let lists = lists_at(plan, code, g, w.time);
-    let Some(e) = pack(ws, w.cur, at, limit, lists, g.levels) else {
+    let limit = ALL_WORDS * area(problem.shape);
+    let lists = lists_at(problem, w.time);
+    let Some(e) = pack(ws, w.cur, at, limit, lists, problem.shape.levels) else {
         return w;
     };
     push(table, n, w.time, e);
@@ -291,74 +269,40 @@ fn go_on(
 // Forward to t, with layers saved on the way in at most so many slots: SLOTS where the walk goes back, 0 where it does not.
 pub fn advance(
     ws: &mut [u64],
-    plan: Plan,
-    code: &[u64],
-    readings: &[i16],
-    g: Shape,
+    problem: &Problem,
     walk: Walk,
     table: &mut [usize],
     t: usize,
     slots: usize,
 ) -> Walk
-    requires goes { Goes plan readings.now g walk t ws.old × Stack plan readings.now walk.count table.old ws.old }
-    requires coded { Coded plan code.now }
+    requires goes { Goes problem.now.plan.now problem.now.readings.now problem.now.shape walk t ws.old × Stack problem.now.plan.now problem.now.readings.now walk.count table.old ws.old }
     requires slots_le_most_slots { slots ≤ most_slots }
-    ensures { Walked plan readings.now t table.new ws.old ws.new result }
+    ensures { Walked problem.now.plan.now problem.now.readings.now t table.new ws.old ws.new result }
 {
     let mut w = walk;
     while w.time < t {
-        let x = next_stop(ws, plan, code, g, w, table, t, slots);
-        w = go_on(ws, plan, code, readings, g, w, table, x, t);
+        let x = next_stop(ws, problem, w, table, t, slots);
+        w = go_on(ws, problem, w, table, x, t);
     }
     w
 }
 
 // The layer after the first reading, with nothing saved.
-pub fn begin(
-    ws: &mut [u64],
-    plan: Plan,
-    code: &[u64],
-    readings: &[i16],
-    g: Shape,
-    table: &mut [usize],
-) -> Walk
-    requires workspace { Workspace plan readings.now g ws.old × (length table.old ≡ table_size) }
-    requires coded { Coded plan code.now }
-    ensures { Walked plan readings.now 1 table.new ws.old ws.new result }
+pub fn begin(ws: &mut [u64], problem: &Problem, table: &mut [usize]) -> Walk
+    requires { Workspace problem.now.plan.now problem.now.readings.now problem.now.shape ws.old × (length table.old ≡ table_size) }
+    ensures { Walked problem.now.plan.now problem.now.readings.now 1 table.new ws.old ws.new result }
 {
-    let a = area(g);
-    table[SLOTS] = FREE_AT * a + layer::TEMP_WORDS * (g.levels as usize);
-    restart(
-        ws,
-        plan,
-        code,
-        readings,
-        g,
-        0,
-        layer::LAYER_WORDS * a,
-        table,
-        0,
-    )
+    let a = area(problem.shape);
+    table[SLOTS] = FREE_AT * a + layer::TEMP_WORDS * (problem.shape.levels as usize);
+    restart(ws, problem, 0, layer::LAYER_WORDS * a, table, 0)
 }
 
 // Back to t: from the last layer saved that is not later, and forward again.
-pub fn rewind(
-    ws: &mut [u64],
-    plan: Plan,
-    code: &[u64],
-    readings: &[i16],
-    g: Shape,
-    walk: Walk,
-    table: &mut [usize],
-    t: usize,
-) -> Walk
-    requires workspace { Workspace plan readings.now g ws.old × (At plan readings.now walk ws.old × (Stack plan readings.now walk.count table.old ws.old × ((1 ≤ t) × (t ≤ walk.time)))) }
-    requires coded { Coded plan code.now }
-    ensures { Walked plan readings.now t table.new ws.old ws.new result }
+pub fn rewind(ws: &mut [u64], problem: &Problem, walk: Walk, table: &mut [usize], t: usize) -> Walk
+    requires { Workspace problem.now.plan.now problem.now.readings.now problem.now.shape ws.old × (At problem.now.plan.now problem.now.readings.now walk ws.old × (Stack problem.now.plan.now problem.now.readings.now walk.count table.old ws.old × ((1 ≤ t) × (t ≤ walk.time)))) }
+    ensures { Walked problem.now.plan.now problem.now.readings.now t table.new ws.old ws.new result }
 {
     let kept = drop_after(table, walk.count, t);
-    let w = restart(
-        ws, plan, code, readings, g, walk.cur, walk.other, table, kept,
-    );
-    advance(ws, plan, code, readings, g, w, table, t, SLOTS)
+    let w = restart(ws, problem, walk.cur, walk.other, table, kept);
+    advance(ws, problem, w, table, t, SLOTS)
 }

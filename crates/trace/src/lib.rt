@@ -6,12 +6,11 @@
 ghost use Rattle.std.specs.Prelude.{◌≡◌, [], ◌∷◌, suc, ◌+◌, ◌-◌, ◌*◌, ◌≤◌, ◌<◌, pos, ◌+ℤ◌};
 ghost use Rattle.model.specs.Run.{joins};
 ghost use Rattle.quadratic.specs.Fine.{far};
-ghost use Rattle.coded.specs.Coded.{Coded};
 ghost use Rattle.runs.specs.Runs.{five_of};
 ghost use Rattle.trace.specs.Trace.{StepReady, StepMade};
 
-use layer::Shape;
-use plan::{Edge, Kind, Plan};
+use layer::Problem;
+use plan::{Edge, Kind};
 use runs::Run;
 
 // Where the way back stands: count, state, index of the level, and the cost there with its changes; the last reading of the run that is open, and how many
@@ -61,26 +60,21 @@ pub fn run_of(first: usize, last: usize, state: usize, lo: i16, j: u64, edge: us
 // The step over boundary t, the layer after t readings standing at cur.
 pub fn step(
     ws: &[u64],
-    plan: Plan,
-    code: &[u64],
-    readings: &[i16],
+    problem: &Problem,
     t: usize,
     cur: usize,
-    g: Shape,
     from: Point,
     out: &mut [i32],
 ) -> Point
-    requires step_ready { StepReady plan readings.now t cur g from ws.now out.old }
-    requires coded { Coded plan code.now }
-    ensures { StepMade plan readings.now t from result out.old out.new }
+    requires { StepReady problem.now.plan.now problem.now.readings.now t cur problem.now.shape from ws.now out.old }
+    ensures { StepMade problem.now.plan.now problem.now.readings.now t from result out.old out.new }
 {
-    let on = labels::label_on(plan, code, t);
-    let u = integers::bias(readings[t]);
-    let want = from.value - square_of(u, g.base + from.level);
+    let on = labels::label_on(problem.plan, problem.code, t);
+    let u = integers::bias(problem.readings[t]);
+    let want = from.value - square_of(u, problem.shape.base + from.level);
     let Some(found) = back::step_back(
         ws,
-        plan,
-        code,
+        problem,
         on,
         t,
         cur,
@@ -89,11 +83,10 @@ pub fn step(
         from.level,
         want,
         from.changes,
-        g,
     ) else {
         return from;
     };
-    let e = coded::edge_in(code, found.edge);
+    let e = coded::edge_in(problem.code, found.edge);
     let before = Point {
         count: labels::count_before(on, t, e.kind, from.count),
         state: e.from as usize,
@@ -106,7 +99,8 @@ pub fn step(
         return before;
     }
     let edge = found.edge;
-    let r = run_of(t + 1, from.last, from.state, plan.lo, from.level, edge);
+    let lo = problem.plan.lo;
+    let r = run_of(t + 1, from.last, from.state, lo, from.level, edge);
     runs::put_run(out, from.runs, r);
     Point {
         last: t,

@@ -1,6 +1,6 @@
 use Rattle.std.proofs.Common.{arith, ◌∙◌, sym}
 use Rattle.coded.specs.Coded.{label_got}
-use Rattle.labels.proofs.Boundary.{cover_none, cover_here, cover_not, cover_past}
+use Rattle.labels.proofs.Covering.{cover_none, cover_here, cover_not, cover_past}
 use Rattle.labels.proofs.label_on.Goals as goal
 
 pub returns-then-is_within : goal.returns-then-is_within

@@ -9,15 +9,11 @@ loop-w-init c = record { to = c.requires.goes.0.from; at = c.requires.goes.0.at;
 pub next_stop-x-requires : goal.next_stop-x-requires
 next_stop-x-requires c = record {
   stops = stops (space_then c.requires.goes.0.space c.loop-w.invariant.inside.size) c.loop-w.invariant.at c.loop-w.invariant.stack c.loop-w-test.true c.requires.goes.0.most;
-  coded = c.requires.coded;
   slots_le_most_slots = c.requires.slots_le_most_slots;
 }
 
 pub go_on-w-requires : goal.go_on-w-requires
-go_on-w-requires c = record {
-  goes = (record { space = space_then c.requires.goes.0.space c.loop-w.invariant.inside.size; at = c.loop-w.invariant.at; from = omega arith; most = omega arith }, c.loop-w.invariant.stack);
-  coded = c.requires.coded;
-}
+go_on-w-requires c = (record { space = space_then c.requires.goes.0.space c.loop-w.invariant.inside.size; at = c.loop-w.invariant.at; from = omega arith; most = omega arith }, c.loop-w.invariant.stack)
 
 pub loop-w-smaller : goal.loop-w-smaller
 loop-w-smaller c = omega (arith, c.go_on-w.ensures.time)

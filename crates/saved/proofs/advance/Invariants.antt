@@ -6,9 +6,9 @@ use Rattle.saved.proofs.advance.Given as goal
 abbrev pub invariant-loop-w : goal.invariant-loop-w
 invariant-loop-w l = record {
   to : l.w.time ≤ l.t;
-  at : At l.plan l.readings l.w l.ws;
-  stack : Stack l.plan l.readings l.w.count l.table l.ws;
-  inside : Inside 0 (limit l.plan) l.initial.ws l.ws;
+  at : At l.problem.plan.now l.problem.readings.now l.w l.ws;
+  stack : Stack l.problem.plan.now l.problem.readings.now l.w.count l.table l.ws;
+  inside : Inside 0 (limit l.problem.plan.now) l.initial.ws l.ws;
 }
 
 abbrev pub decreases-loop-w : goal.decreases-loop-w

@@ -3,13 +3,13 @@ use Rattle.saved.proofs.Walks.{start_ready, restarted_first, unpack_ready, resta
 use Rattle.saved.proofs.restart.Goals as goal
 
 pub first_layer-requires : goal.first_layer-requires
-first_layer-requires c = record { start_ready = start_ready c.requires.workspace.0 c.requires.workspace.1.0 c.area-free.ensures.0; coded = c.requires.coded }
+first_layer-requires c = start_ready c.requires.0 c.requires.1.0 c.area-free.ensures.0
 
 pub returns-then-count-eq0 : goal.returns-then-count-eq0
-returns-then-count-eq0 c = restarted_first c.requires.workspace.0 c.requires.workspace.1.0 c.area-free.ensures.0 c.if-count-eq0.true c.first_layer.ensures
+returns-then-count-eq0 c = restarted_first c.requires.0 c.requires.1.0 c.area-free.ensures.0 c.if-count-eq0.true c.first_layer.ensures
 
 pub unpack-requires : goal.unpack-requires
-unpack-requires c = unpack_ready c.requires.workspace.0 c.requires.workspace.1.0 c.requires.workspace.1.1 (omega (arith, c.if-count-eq0.false)) c.lists_at-lists.ensures.0
+unpack-requires c = unpack_ready c.requires.0 c.requires.1.0 c.requires.1.1 (omega (arith, c.if-count-eq0.false)) c.lists_at-lists.ensures.0
 
 pub returns : goal.returns
-returns c = restarted_top c.requires.workspace.0 c.requires.workspace.1.0 c.requires.workspace.1.1 (omega (arith, c.if-count-eq0.false)) c.lists_at-lists.ensures.0 c.unpack.ensures
+returns c = restarted_top c.requires.0 c.requires.1.0 c.requires.1.1 (omega (arith, c.if-count-eq0.false)) c.lists_at-lists.ensures.0 c.unpack.ensures

@@ -5,22 +5,21 @@ use mathlib.Core.Path.{refl}
 use Rattle.saved.proofs.rewind.Goals as goal
 
 pub restart-w-requires : goal.restart-w-requires
-restart-w-requires c = record { workspace = (c.requires.workspace.0, (c.requires.workspace.1.0.places, stack_dropped c.requires.workspace.1.1.0 c.drop_after-kept.ensures)); coded = c.requires.coded }
+restart-w-requires c = (c.requires.0, (c.requires.1.0.places, stack_dropped c.requires.1.1.0 c.drop_after-kept.ensures))
 
 pub advance-requires : goal.advance-requires
 advance-requires c = record {
-  goes = let m = restarted_walked c.requires.workspace.0 (stack_dropped c.requires.workspace.1.1.0 c.drop_after-kept.ensures) c.restart-w.ensures refl in (
+  goes = let m = restarted_walked c.requires.0 (stack_dropped c.requires.1.1.0 c.drop_after-kept.ensures) c.restart-w.ensures refl in (
     record {
-      space = space_then c.requires.workspace.0 m.inside.size;
+      space = space_then c.requires.0 m.inside.size;
       at = m.at;
-      from = starts_early c.drop_after-kept.ensures c.restart-w.ensures c.requires.workspace.1.1.1.0;
-      most = omega (arith, c.requires.workspace.1.1.1.1, c.requires.workspace.1.0.most);
+      from = starts_early c.drop_after-kept.ensures c.restart-w.ensures c.requires.1.1.1.0;
+      most = omega (arith, c.requires.1.1.1.1, c.requires.1.0.most);
     },
     m.stack,
   );
-  coded = c.requires.coded;
   slots_le_most_slots = omega arith;
 }
 
 pub returns : goal.returns
-returns c = walked_then (restarted_walked c.requires.workspace.0 (stack_dropped c.requires.workspace.1.1.0 c.drop_after-kept.ensures) c.restart-w.ensures refl) c.advance.ensures
+returns c = walked_then (restarted_walked c.requires.0 (stack_dropped c.requires.1.1.0 c.drop_after-kept.ensures) c.restart-w.ensures refl) c.advance.ensures
