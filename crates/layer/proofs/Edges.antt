@@ -42,7 +42,7 @@ module _ (o : Option Label) (t : ℕ) (es : List Edge) (k s cur moved : ℕ) (g 
   took_none ws first second work = record {
     place = inl refl;
     spared = spared_refl _ _ _ _ ws;
-    curve = λ A B C D F T l d h c f. curve_as (λ (j : ℕ). min (F j) (least_offered o t es 0 k s g.levels T j)) (λ j i. omega (arith, curve_most l c j i, min_nothing (λ (e : ℕ). offered o t (edge_of es e) k s g.levels (T (change_of (edge_of es e).kind)) j))) c;
+    curve = λ A B C D F T l d h c f. curve_as (λ (j : ℕ). min (F j) (least_offered o t es 0 k s g.grid.levels T j)) (λ j i. omega (arith, curve_most l c j i, min_nothing (λ (e : ℕ). offered o t (edge_of es e) k s g.grid.levels (T (change_of (edge_of es e).kind)) j))) c;
   }
 
   module _ {ws ws' : List ℕ} {first second work r n i : ℕ} (a : EdgesReady o t es n k s cur moved g first second work ws) (h : i < n) (m : TookEdges o t es i k s cur moved g ws ws' first second work r) where
@@ -51,20 +51,20 @@ module _ (o : Option Label) (t : ℕ) (es : List Edge) (k s cur moved : ℕ) (g 
     other = order_other first second r m.place
 
     -- a list that an edge comes from is as it was
-    source_kept : {A C : ℕ} {F : ℕ → ℕ} (e : ℕ) → e < n → leads_from o t (edge_of es e) k s ≡ true → Curve A C g.base g.levels ws (source_of o t (edge_of es e) k cur moved g) F
-        → Curve A C g.base g.levels ws' (source_of o t (edge_of es e) k cur moved g) F
+    source_kept : {A C : ℕ} {F : ℕ → ℕ} (e : ℕ) → e < n → leads_from o t (edge_of es e) k s ≡ true → Curve A C g.grid.base g.grid.levels ws (source_of o t (edge_of es e) k cur moved g) F
+        → Curve A C g.grid.base g.grid.levels ws' (source_of o t (edge_of es e) k cur moved g) F
     source_kept e he l c =
         let d = a.hand e he l in
         spared_curve m.spared d.f_acc d.into.f_next d.into.f_work c
 
     -- what the lists cost, as tables
     abbrev kept_costs : ℕ → Table
-    kept_costs c k' s' = costs g.base (piece ws (list_at (from_place c cur moved) g.states g.levels k' s') g.levels)
+    kept_costs c k' s' = costs g.grid.base (piece ws (list_at (from_place c cur moved) g.states g.grid.levels k' s') g.grid.levels)
 
     abbrev from : ℕ
     from = from_place (change_of (edge_of es i).kind) cur moved
 
-    acc_sound : Sound count_limit cost_limit g.base g.levels ws' r
+    acc_sound : Sound count_limit cost_limit g.grid.base g.grid.levels ws' r
     acc_sound =
         curve_costs
         (m.curve count_limit cost_limit (cost_limit - penalty_most) (count_limit - 1) _ kept_costs a.limits (omega arith) (omega arith) a.so_far (λ e he l. a.sound e (omega arith) l))
@@ -80,7 +80,7 @@ module _ (o : Option Label) (t : ℕ) (es : List Edge) (k s cur moved : ℕ) (g 
       from = a.from i h;
       gap = a.gap i h;
       ready = λ l. record {
-        hand = subst (λ (z : ℕ). Hand r (first + second - r) work (source_of o t (edge_of es i) k cur moved g) g.levels z) (sym m.spared.size) (hand_order other (a.hand i h l));
+        hand = subst (λ (z : ℕ). Hand r (first + second - r) work (source_of o t (edge_of es i) k cur moved g) g.grid.levels z) (sym m.spared.size) (hand_order other (a.hand i h l));
         low = omega (arith, penalty_most_lem (edge_of es i).class);
         some = a.some;
         limits = a.limits;
@@ -94,8 +94,8 @@ module _ (o : Option Label) (t : ℕ) (es : List Edge) (k s cur moved : ℕ) (g 
       place = order_place other w.place;
       spared = spared_then m.spared (spared_order other w.spared);
       curve = λ A B C D F T l d b c f.
-          curve_as (λ (j : ℕ). min (F j) (least_offered o t es (i + 1) k s g.levels T j))
-          (λ j z. omega (arith, min_one_more i (λ (e : ℕ). offered o t (edge_of es e) k s g.levels (T (change_of (edge_of es e).kind)) j)))
+          curve_as (λ (j : ℕ). min (F j) (least_offered o t es (i + 1) k s g.grid.levels T j))
+          (λ j z. omega (arith, min_one_more i (λ (e : ℕ). offered o t (edge_of es e) k s g.grid.levels (T (change_of (edge_of es e).kind)) j)))
           (w.curve A B C D _ (T (change_of (edge_of es i).kind)) l d b (m.curve A B C D F T l d b c (λ e he. f e (omega arith))) (λ e. source_kept i h e (f i (omega arith) e)));
     }
 

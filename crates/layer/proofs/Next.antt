@@ -64,10 +64,10 @@ min_ext (suc n) f g h = rw (min_ext n f g (λ i k. h i (omega arith)), h n (omeg
 
 -- the plan's shape, in a curve
 module _ {P : Plan} {g : Shape} (e : ShapeOf P g) {A B o : ℕ} {ws : List ℕ} {F : ℕ → ℕ} where
-  pub to_shape : Curve A B (base_of P) (width P) ws o F → Curve A B g.base g.levels ws o F
+  pub to_shape : Curve A B (base_of P) (width P) ws o F → Curve A B g.grid.base g.grid.levels ws o F
   to_shape c = rw (e.base, e.levels) c
 
-  pub of_shape : Curve A B g.base g.levels ws o F → Curve A B (base_of P) (width P) ws o F
+  pub of_shape : Curve A B g.grid.base g.grid.levels ws o F → Curve A B (base_of P) (width P) ws o F
   of_shape c = rw (← e.base, ← e.levels) c
 
 module _ {P : Plan} {zs : List ℤ} {g : Shape} (a : Task P zs g) where
@@ -98,14 +98,14 @@ module _ {P : Plan} {zs : List ℤ} {g : Shape} (a : Task P zs g) where
   pub losses : (t : ℕ) (m : ℤ) → on_grid P m ≡ true → loss_at zs t m ≤ loss_most
   losses = losses_low P zs a.ready.lo_16 a.ready.hi_16 a.ready.readings_16
 
-  pub some_levels : 0 < g.levels
+  pub some_levels : 0 < g.grid.levels
   unfolding width
   some_levels = omega (arith, a.shape.levels)
 
   pub shape_small : Shape-small g
   shape_small = record { states = omega (arith, a.shape.states, a.ready.plan.few_states); levels = omega (arith, a.shape.levels, a.ready.plan.narrow) }
 
-  pub limits : (A B : ℕ) → A ≤ count_limit → B ≤ cost_limit → Limits A B g.base g.levels
+  pub limits : (A B : ℕ) → A ≤ count_limit → B ≤ cost_limit → Limits A B g.grid.base g.grid.levels
   limits A B h k = record { readings = h; cost = k; low = omega (arith, a.shape.base, places_from); high = omega (arith, a.shape.base, a.shape.levels, places_to) }
 
   -- a count that is used
@@ -113,11 +113,11 @@ module _ {P : Plan} {zs : List ℤ} {g : Shape} (a : Task P zs g) where
   used_low t h = omega (arith, used_most (label_on P t))
 
   -- a list's place, by the shape
-  pub list_is : (o k s : ℕ) {d : ℕ} → d ≡ list_at o g.states g.levels k s → d ≡ list_at o P.states (width P) k s
-  list_is o k s e = e ∙ ap (λ (x : ℕ). list_at o x g.levels k s) a.shape.states ∙ ap (λ (x : ℕ). list_at o P.states x k s) a.shape.levels
+  pub list_is : (o k s : ℕ) {d : ℕ} → d ≡ list_at o g.states g.grid.levels k s → d ≡ list_at o P.states (width P) k s
+  list_is o k s e = e ∙ ap (λ (x : ℕ). list_at o x g.grid.levels k s) a.shape.states ∙ ap (λ (x : ℕ). list_at o P.states x k s) a.shape.levels
 
   -- the base is the place of the lowest level
-  pub base_place : pos g.base ≡ P.lo +ℤ pos 163840
+  pub base_place : pos g.grid.base ≡ P.lo +ℤ pos 163840
   base_place = rw a.shape.base lowest_place_lem
 
 -- a reading is read back as itself
@@ -135,7 +135,7 @@ source_layer m (Abs gap) = m.changes
 
 module _ {P : Plan} {zs : List ℤ} {o : Option Label} {t cur moved dst free k s : ℕ} {g : Shape} {ws : List ℕ} (a : NextReady P zs o t cur moved dst free k s g ws) where
   abbrev size : ℕ
-  size = 4 * g.levels
+  size = 4 * g.grid.levels
 
   few : t < 4096
   few = omega (arith, a.more, a.task.ready.few_readings)
@@ -173,20 +173,20 @@ module _ {P : Plan} {zs : List ℤ} {o : Option Label} {t cur moved dst free k s
   module _ (T : ℕ → Table) (m : Sources P t T ws cur moved) where
     -- the list that an edge comes from, and what it costs
     source_list : (e : ℕ) → e < P.edgecount → leads_from o t (edge_of P.edges e) k s ≡ true
-        → Curve (t * count_most) (t * reading_most) g.base g.levels ws (source_of o t (edge_of P.edges e) k cur moved g) (T (change_of (edge_at P e).kind) (count_before o t (edge_at P e).kind k) (edge_at P e).from)
+        → Curve (t * count_most) (t * reading_most) g.grid.base g.grid.levels ws (source_of o t (edge_of P.edges e) k cur moved g) (T (change_of (edge_at P e).kind) (count_before o t (edge_at P e).kind k) (edge_at P e).from)
     source_list e h l =
         to_shape a.task.shape
         (rw (a.task.shape.states, a.task.shape.levels) ((source_layer m (edge_at P e).kind).list (count_before o t (edge_at P e).kind k) (edge_at P e).from (before_used e l) (a.task.ready.plan.edge e h).from_below))
 
-    source_kept : {w1 : List ℕ} → Made (λ (j : ℕ). absent) ws w1 free g.levels → (e : ℕ) → e < P.edgecount → leads_from o t (edge_of P.edges e) k s ≡ true
-        → Curve (t * count_most) (t * reading_most) g.base g.levels w1 (source_of o t (edge_of P.edges e) k cur moved g) (T (change_of (edge_at P e).kind) (count_before o t (edge_at P e).kind k) (edge_at P e).from)
+    source_kept : {w1 : List ℕ} → Made (λ (j : ℕ). absent) ws w1 free g.grid.levels → (e : ℕ) → e < P.edgecount → leads_from o t (edge_of P.edges e) k s ≡ true
+        → Curve (t * count_most) (t * reading_most) g.grid.base g.grid.levels w1 (source_of o t (edge_of P.edges e) k cur moved g) (T (change_of (edge_at P e).kind) (count_before o t (edge_at P e).kind k) (edge_at P e).from)
     source_kept m1 e h l = let c = source_list e h l in curve_kept m1.kept c (near free c (inl (source_below e h l)))
 
-  module _ {w1 : List ℕ} (m1 : Made (λ (j : ℕ). absent) ws w1 free g.levels) where
+  module _ {w1 : List ℕ} (m1 : Made (λ (j : ℕ). absent) ws w1 free g.grid.levels) where
     room_now : free + 3 * size ≤ length w1
     room_now = omega (arith, m1.kept.size, a.room, a.task.shape.levels)
 
-    acc_none : {A B : ℕ} → Curve A B g.base g.levels w1 free (λ (j : ℕ). no_value)
+    acc_none : {A B : ℕ} → Curve A B g.grid.base g.grid.levels w1 free (λ (j : ℕ). no_value)
     acc_none = curve_flat (inl refl) (omega (arith, a.room, a.task.shape.levels)) m1
 
     pub edges_ready : EdgesReady o t P.edges P.edgecount k s cur moved g free (free + size) (free + 2 * size) w1
@@ -216,35 +216,35 @@ module _ {P : Plan} {zs : List ℤ} {o : Option Label} {t cur moved dst free k s
     module _ {w2 : List ℕ} {r : ℕ} (m2 : TookEdges o t P.edges P.edgecount k s cur moved g w1 w2 free (free + size) (free + 2 * size) r) where
       -- the least over the edges
       acc_least : (T : ℕ → Table) → Sources P t T ws cur moved
-          → Curve (t * count_most + 1) (t * reading_most + penalty_most) g.base g.levels w2 r (λ (j : ℕ). min no_value (least_offered o t P.edges P.edgecount k s g.levels T j))
+          → Curve (t * count_most + 1) (t * reading_most + penalty_most) g.grid.base g.grid.levels w2 r (λ (j : ℕ). min no_value (least_offered o t P.edges P.edgecount k s g.grid.levels T j))
       acc_least T m =
           m2.curve (t * count_most + 1) (t * reading_most + penalty_most) (t * reading_most) (t * count_most) (λ (j : ℕ). no_value) T (limits a.task _ _ (omega (arith, few)) (omega (arith, most_cost))) (omega arith) (omega arith) acc_none
           (λ e h l. source_kept T m m1 e h l)
 
-      dst_apart : Apart r dst (4 * g.levels)
+      dst_apart : Apart r dst (4 * g.grid.levels)
       dst_apart = inr (⊎_elim (λ e. omega (arith, a.under, a.task.shape.levels)) (λ e. omega (arith, a.under, a.task.shape.levels)) m2.place)
 
-      dst_room : dst + 4 * g.levels ≤ length w2
+      dst_room : dst + 4 * g.grid.levels ≤ length w2
       dst_room = omega (arith, a.under, a.task.shape.levels, a.room, m1.kept.size, m2.spared.size)
 
-      acc_sound : Sound count_limit cost_limit g.base g.levels w2 r
+      acc_sound : Sound count_limit cost_limit g.grid.base g.grid.levels w2 r
       acc_sound = curve_costs (curve_wider count_limit cost_limit (omega (arith, few)) (omega (arith, most_cost)) (acc_least a.tables a.sources))
 
       pub reading_ready : {u : ℕ} → (131072 ≤ u) × (u < 196608)
-          → ((Apart r dst (4 * g.levels) × (dst + 4 * g.levels ≤ length w2)) × ((((131072 ≤ u) × (u < 196608)) × ((1 < 256) × (g.base + g.levels ≤ 196608))) × (Limits count_limit cost_limit g.base g.levels × Sound count_limit cost_limit g.base g.levels w2 r)))
+          → ((Apart r dst (4 * g.grid.levels) × (dst + 4 * g.grid.levels ≤ length w2)) × ((((131072 ≤ u) × (u < 196608)) × ((1 < 256) × (g.grid.base + g.grid.levels ≤ 196608))) × (Limits count_limit cost_limit g.grid.base g.grid.levels × Sound count_limit cost_limit g.grid.base g.grid.levels w2 r)))
       reading_ready h =
           ((dst_apart, dst_room), ((h, (omega arith, omega (arith, a.task.shape.base, a.task.shape.levels, places_to a.task))), (limits a.task count_limit cost_limit (omega arith) (omega arith), acc_sound)))
 
-      module _ (u : ℕ) (at : pos u ≡ get_or zs t (pos 0) +ℤ pos 163840) {w3 : List ℕ} (m3 : WithLoss 1 u g.base g.levels w2 w3 r dst) where
-        value_is : (T : ℕ → Table) (j : ℕ) → raise (min no_value (least_offered o t P.edges P.edgecount k s g.levels T j)) (unit * (1 * (far u (g.base + j) * far u (g.base + j)))) ≡ next_from P zs t T k s j
+      module _ (u : ℕ) (at : pos u ≡ get_or zs t (pos 0) +ℤ pos 163840) {w3 : List ℕ} (m3 : WithLoss 1 u g.grid.base g.grid.levels w2 w3 r dst) where
+        value_is : (T : ℕ → Table) (j : ℕ) → raise (min no_value (least_offered o t P.edges P.edgecount k s g.grid.levels T j)) (unit * (1 * (far u (g.grid.base + j) * far u (g.grid.base + j)))) ≡ next_from P zs t T k s j
         unfolding next_from
         value_is T j =
             let L = a.task.shape.levels in
             let f : ℕ → ℕ = λ (e : ℕ). by_edge P t (T (change_of (edge_at P e).kind)) k s j e in
-            let x : least_offered o t P.edges P.edgecount k s g.levels T j ≡ min_below P.edgecount f =
+            let x : least_offered o t P.edges P.edgecount k s g.grid.levels T j ≡ min_below P.edgecount f =
             min_ext P.edgecount _ _ (λ e h. rw (L, a.on) (offered_by P t (T (change_of (edge_at P e).kind)) k s j e)) in
-            let y : min no_value (least_offered o t P.edges P.edgecount k s g.levels T j) ≡ min_below P.edgecount f = omega (arith, x, min_none P.edgecount f) in
-            let z : 1 * (far u (g.base + j) * far u (g.base + j)) ≡ loss_at zs t (P.lo +ℤ pos j) = omega (arith, loss_place zs t P.lo u g.base at (base_place a.task) j) in
+            let y : min no_value (least_offered o t P.edges P.edgecount k s g.grid.levels T j) ≡ min_below P.edgecount f = omega (arith, x, min_none P.edgecount f) in
+            let z : 1 * (far u (g.grid.base + j) * far u (g.grid.base + j)) ≡ loss_at zs t (P.lo +ℤ pos j) = omega (arith, loss_place zs t P.lo u g.grid.base at (base_place a.task) j) in
             rw (y, z) refl
 
         next_curve : (T : ℕ → Table) → Sources P t T ws cur moved → Curve (suc t * count_most) (suc t * reading_most) (base_of P) (width P) w3 dst (next_from P zs t T k s)
@@ -257,7 +257,7 @@ module _ {P : Plan} {zs : List ℤ} {o : Option Label} {t cur moved dst free k s
         besides : Beside dst free (width P) ws w3
         besides = record { size = m3.kept.size ∙ m2.spared.size ∙ m1.kept.size; word = word }
           where
-            off : (i d : ℕ) → free ≤ d → d + size ≤ free + temp_words (width P) → (i < free) ⊎ (free + temp_words (width P) ≤ i) → Off d g.levels i
+            off : (i d : ℕ) → free ≤ d → d + size ≤ free + temp_words (width P) → (i < free) ⊎ (free + temp_words (width P) ≤ i) → Off d g.grid.levels i
             off i d h l = ⊎_elim (λ p. inl (omega arith)) (λ p. inr (omega arith))
 
             word : (i : ℕ) → Off dst (width P) i → (i < free) ⊎ (free + temp_words (width P) ≤ i) → get_or w3 i 0 ≡ get_or ws i 0
@@ -272,8 +272,8 @@ module _ {P : Plan} {zs : List ℤ} {o : Option Label} {t cur moved dst free k s
 
 -- ---- the first layer
 
-module _ {P : Plan} {zs : List ℤ} {dst free k s : ℕ} {g : Shape} {ws : List ℕ} (a : FirstReady P zs dst free k s g ws) (c : ℕ) (is : c ≡ first_cost P k s) {w1 : List ℕ} (m1 : Made (λ (j : ℕ). flat c 0) ws w1 free g.levels) where
-  acc_first : Curve 0 1 g.base g.levels w1 free (λ (j : ℕ). lex c 0)
+module _ {P : Plan} {zs : List ℤ} {dst free k s : ℕ} {g : Shape} {ws : List ℕ} (a : FirstReady P zs dst free k s g ws) (c : ℕ) (is : c ≡ first_cost P k s) {w1 : List ℕ} (m1 : Made (λ (j : ℕ). flat c 0) ws w1 free g.grid.levels) where
+  acc_first : Curve 0 1 g.grid.base g.grid.levels w1 free (λ (j : ℕ). lex c 0)
   unfolding first_cost
   acc_first =
       curve_flat (go (in_set P.start s && eqb k 0) is) (omega (arith, a.room, a.task.shape.levels)) (record { kept = m1.kept; formed = m1.formed; is = λ j h. m1.is j h ∙ sym (levelled_is c 0 (omega arith)) })
@@ -283,17 +283,17 @@ module _ {P : Plan} {zs : List ℤ} {dst free k s : ℕ} {g : Shape} {ws : List 
       go false e = inl (omega arith)
 
   pub first_ready : {u : ℕ} → (131072 ≤ u) × (u < 196608)
-      → ((Apart free dst (4 * g.levels) × (dst + 4 * g.levels ≤ length w1)) × ((((131072 ≤ u) × (u < 196608)) × ((1 < 256) × (g.base + g.levels ≤ 196608))) × (Limits count_limit cost_limit g.base g.levels × Sound count_limit cost_limit g.base g.levels w1 free)))
+      → ((Apart free dst (4 * g.grid.levels) × (dst + 4 * g.grid.levels ≤ length w1)) × ((((131072 ≤ u) × (u < 196608)) × ((1 < 256) × (g.grid.base + g.grid.levels ≤ 196608))) × (Limits count_limit cost_limit g.grid.base g.grid.levels × Sound count_limit cost_limit g.grid.base g.grid.levels w1 free)))
   first_ready h = (
     (inr (omega (arith, a.under, a.task.shape.levels)), omega (arith, a.under, a.room, a.task.shape.levels, m1.kept.size)),
     ((h, (omega arith, omega (arith, a.task.shape.base, a.task.shape.levels, places_to a.task))), (limits a.task count_limit cost_limit (omega arith) (omega arith), curve_costs (curve_wider count_limit cost_limit (omega arith) (omega arith) acc_first))),
   )
 
-  module _ (u : ℕ) (at : pos u ≡ get_or zs 0 (pos 0) +ℤ pos 163840) {w2 : List ℕ} (m2 : WithLoss 1 u g.base g.levels w1 w2 free dst) where
-    value_first : (j : ℕ) → raise (lex c 0) (unit * (1 * (far u (g.base + j) * far u (g.base + j)))) ≡ first_table P zs k s j
+  module _ (u : ℕ) (at : pos u ≡ get_or zs 0 (pos 0) +ℤ pos 163840) {w2 : List ℕ} (m2 : WithLoss 1 u g.grid.base g.grid.levels w1 w2 free dst) where
+    value_first : (j : ℕ) → raise (lex c 0) (unit * (1 * (far u (g.grid.base + j) * far u (g.grid.base + j)))) ≡ first_table P zs k s j
     unfolding first_table first_cost raise
     value_first j =
-        let z : 1 * (far u (g.base + j) * far u (g.base + j)) ≡ loss_at zs 0 (P.lo +ℤ pos j) = omega (arith, loss_place zs 0 P.lo u g.base at (base_place a.task) j) in
+        let z : 1 * (far u (g.grid.base + j) * far u (g.grid.base + j)) ≡ loss_at zs 0 (P.lo +ℤ pos j) = omega (arith, loss_place zs 0 P.lo u g.grid.base at (base_place a.task) j) in
         rw (is, z) (go (in_set P.start s && eqb k 0))
       where
         go : (b : Bool) → cond (ltb (lex (cond b 0 none) 0) no_cost) (lex (cond b 0 none) 0 + unit * loss_at zs 0 (P.lo +ℤ pos j)) (lex (cond b 0 none) 0) ≡ cond b (unit * loss_at zs 0 (P.lo +ℤ pos j)) no_cost

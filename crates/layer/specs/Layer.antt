@@ -30,13 +30,13 @@ list_at o S L k s = o + (k * S + s) * (4 * L)
 
 pub record Shape-small (g : Shape) : Type 0 where
   pub states : g.states ≤ 8
-  pub levels : g.levels ≤ 1024
+  pub levels : g.grid.levels ≤ 1024
 
 -- the plan's shape
 pub record ShapeOf (P : Plan) (g : Shape) : Type 0 where
   pub states : g.states ≡ P.states
-  pub levels : g.levels ≡ width P
-  pub base : g.base ≡ base_of P
+  pub levels : g.grid.levels ≡ width P
+  pub base : g.grid.base ≡ base_of P
 
 -- the words of a layer for each state and level, a list having four for each level; and all of them
 abbrev pub layer_cell : ℕ

@@ -20,7 +20,7 @@ use Rattle.layer.specs.Layer.{Shape-small, place_most, list_at, from_place}
 
 -- the list that the edge comes from
 abbrev pub source : Option Label → ℕ → Edge → ℕ → ℕ → Shape → ℕ
-source o t x k cur g = list_at cur g.states g.levels (count_before o t x.kind k) x.from
+source o t x k cur g = list_at cur g.states g.grid.levels (count_before o t x.kind k) x.from
 
 -- and in which of two layers, one for stays and one for changes
 abbrev pub source_of : Option Label → ℕ → Edge → ℕ → ℕ → ℕ → Shape → ℕ
@@ -41,19 +41,19 @@ pub record MayTake (o : Option Label) (t : ℕ) (x : Edge) (k s cur : ℕ) (g : 
   pub boundary : t < 65536
   pub count : k < counts
   pub place : cur ≤ place_most
-  pub limits : Limits count_limit cost_limit g.base g.levels
+  pub limits : Limits count_limit cost_limit g.grid.base g.grid.levels
   pub before : leads_from o t x k s ≡ true → count_before o t x.kind k < counts
   pub from : x.from < 8
   pub gap : gap_of x.kind ≤ 1023
-  pub ready : leads_from o t x k s ≡ true → Ready acc next work (source o t x k cur g) (penalty x.class) g.base g.levels ws
+  pub ready : leads_from o t x k s ≡ true → Ready acc next work (source o t x k cur g) (penalty x.class) g.grid.base g.grid.levels ws
 
 -- the least so far, with the edge, stands at r
 pub record TookOne (o : Option Label) (t : ℕ) (x : Edge) (k s cur : ℕ) (g : Shape) (ws ws' : List ℕ) (acc next work r : ℕ) : Type 0 where
   pub place : OneOf acc next r
-  pub spared : Spared acc next work g.levels ws ws'
-  pub curve : (A B C D : ℕ) (F : ℕ → ℕ) (H : Table) → Limits A B g.base g.levels → D < A → C + penalty_most ≤ B → Curve A B g.base g.levels ws acc F
-      → (leads_from o t x k s ≡ true → Curve D C g.base g.levels ws (source o t x k cur g) (H (count_before o t x.kind k) x.from))
-      → Curve A B g.base g.levels ws' r (λ (j : ℕ). min (F j) (offered o t x k s g.levels H j))
+  pub spared : Spared acc next work g.grid.levels ws ws'
+  pub curve : (A B C D : ℕ) (F : ℕ → ℕ) (H : Table) → Limits A B g.grid.base g.grid.levels → D < A → C + penalty_most ≤ B → Curve A B g.grid.base g.grid.levels ws acc F
+      → (leads_from o t x k s ≡ true → Curve D C g.grid.base g.grid.levels ws (source o t x k cur g) (H (count_before o t x.kind k) x.from))
+      → Curve A B g.grid.base g.grid.levels ws' r (λ (j : ℕ). min (F j) (offered o t x k s g.grid.levels H j))
 
 -- ---- all edges
 
@@ -71,20 +71,20 @@ pub record EdgesReady (o : Option Label) (t : ℕ) (es : List Edge) (n k s cur m
   pub count : k < counts
   pub place : cur ≤ place_most
   pub place_moved : moved ≤ place_most
-  pub limits : Limits count_limit cost_limit g.base g.levels
+  pub limits : Limits count_limit cost_limit g.grid.base g.grid.levels
   pub few : n ≤ 32
-  pub some : 0 < g.levels
-  pub so_far : Sound count_limit cost_limit g.base g.levels ws first
+  pub some : 0 < g.grid.levels
+  pub so_far : Sound count_limit cost_limit g.grid.base g.grid.levels ws first
   pub from : (e : ℕ) → e < n → (edge_of es e).from < 8
   pub gap : (e : ℕ) → e < n → gap_of (edge_of es e).kind ≤ 1023
   pub before : (e : ℕ) → e < n → leads_from o t (edge_of es e) k s ≡ true → count_before o t (edge_of es e).kind k < counts
-  pub hand : (e : ℕ) → e < n → leads_from o t (edge_of es e) k s ≡ true → Hand first second work (source_of o t (edge_of es e) k cur moved g) g.levels (length ws)
-  pub sound : (e : ℕ) → e < n → leads_from o t (edge_of es e) k s ≡ true → Sound (count_limit - 1) (cost_limit - penalty_most) g.base g.levels ws (source_of o t (edge_of es e) k cur moved g)
+  pub hand : (e : ℕ) → e < n → leads_from o t (edge_of es e) k s ≡ true → Hand first second work (source_of o t (edge_of es e) k cur moved g) g.grid.levels (length ws)
+  pub sound : (e : ℕ) → e < n → leads_from o t (edge_of es e) k s ≡ true → Sound (count_limit - 1) (cost_limit - penalty_most) g.grid.base g.grid.levels ws (source_of o t (edge_of es e) k cur moved g)
 
 -- the least over the first n edges stands at r
 pub record TookEdges (o : Option Label) (t : ℕ) (es : List Edge) (n k s cur moved : ℕ) (g : Shape) (ws ws' : List ℕ) (first second work r : ℕ) : Type 0 where
   pub place : OneOf first second r
-  pub spared : Spared first second work g.levels ws ws'
-  pub curve : (A B C D : ℕ) (F : ℕ → ℕ) (T : ℕ → Table) → Limits A B g.base g.levels → D < A → C + penalty_most ≤ B → Curve A B g.base g.levels ws first F
-      → ((e : ℕ) → e < n → leads_from o t (edge_of es e) k s ≡ true → Curve D C g.base g.levels ws (source_of o t (edge_of es e) k cur moved g) (T (change_of (edge_of es e).kind) (count_before o t (edge_of es e).kind k) (edge_of es e).from))
-      → Curve A B g.base g.levels ws' r (λ (j : ℕ). min (F j) (least_offered o t es n k s g.levels T j))
+  pub spared : Spared first second work g.grid.levels ws ws'
+  pub curve : (A B C D : ℕ) (F : ℕ → ℕ) (T : ℕ → Table) → Limits A B g.grid.base g.grid.levels → D < A → C + penalty_most ≤ B → Curve A B g.grid.base g.grid.levels ws first F
+      → ((e : ℕ) → e < n → leads_from o t (edge_of es e) k s ≡ true → Curve D C g.grid.base g.grid.levels ws (source_of o t (edge_of es e) k cur moved g) (T (change_of (edge_of es e).kind) (count_before o t (edge_of es e).kind k) (edge_of es e).from))
+      → Curve A B g.grid.base g.grid.levels ws' r (λ (j : ℕ). min (F j) (least_offered o t es n k s g.grid.levels T j))
