@@ -28,7 +28,7 @@ use Rattle.saved.proofs.Chains.{inside_wider, inside_then}
 use Rattle.saved.proofs.Stacks.{layer_row, layer_packed, packed_layer, off_low, off_high, stack_same, stack_kept, stack_pushed, stack_empty}
 
 pub stop_row : {P : Plan} {g : Shape} {w : Walk} {t : ℕ} {T ws : List ℕ} (a : Stops P g w t T ws) {n : ℕ} → n ≡ used_at P w.time * P.states
-    → Row ws w.cur n g.levels × (w.cur + n * (4 * g.levels) ≤ place_most)
+    → Row ws w.cur n g.grid.levels × (w.cur + n * (4 * g.grid.levels) ≤ place_most)
 stop_row a e = rw e (a.row, a.place)
 
 pub space_then : {P : Plan} {zs : List ℤ} {g : Shape} {ws ws' : List ℕ} → Workspace P zs g ws → length ws' ≡ length ws → Workspace P zs g ws'
@@ -50,14 +50,14 @@ module _ {P : Plan} {zs : List ℤ} {g : Shape} {ws : List ℕ} (a : Workspace P
   pub stack_fits : stack_at P ≤ limit P
   stack_fits = omega (arith, wide)
 
-  pub area_is : {x : ℕ} → x ≡ g.states * g.levels → x ≡ P.states * width P
+  pub area_is : {x : ℕ} → x ≡ g.states * g.grid.levels → x ≡ P.states * width P
   area_is e = rw (a.task.shape.states, a.task.shape.levels) at e
 
   layers_low : {cur other : ℕ} → Places P cur other → (cur + layer_words P ≤ free_cell * (P.states * width P)) × (other + layer_words P ≤ free_cell * (P.states * width P))
   layers_low = ⊎_elim (λ p. (omega arith, omega arith)) (λ p. (omega arith, omega arith))
 
   -- no word from the stack on is touched
-  above_layers : {x t o : ℕ} {H : Table} {ws' : List ℕ} → x ≡ g.states * g.levels → o + layer_words P ≤ free_cell * (P.states * width P) → Stepped P t H o (free_cell * x) ws ws' → (i : ℕ) → stack_at P ≤ i → get_or ws' i 0 ≡ get_or ws i 0
+  above_layers : {x t o : ℕ} {H : Table} {ws' : List ℕ} → x ≡ g.states * g.grid.levels → o + layer_words P ≤ free_cell * (P.states * width P) → Stepped P t H o (free_cell * x) ws ws' → (i : ℕ) → stack_at P ≤ i → get_or ws' i 0 ≡ get_or ws i 0
   above_layers e h m i p = m.word i (inr (omega arith)) (inr (omega (arith, area_is e)))
 
   within : {ws' : List ℕ} → length ws' ≡ length ws → ((i : ℕ) → stack_at P ≤ i → get_or ws' i 0 ≡ get_or ws i 0) → Inside 0 (stack_at P) ws ws'
@@ -76,11 +76,11 @@ module _ {P : Plan} {zs : List ℤ} {g : Shape} {ws : List ℕ} (a : Workspace P
   -- ---- starting again
 
   -- at the first reading, with no entry in the table
-  pub empty_ready : {x : ℕ} (T : List ℕ) → x ≡ g.states * g.levels → length T ≡ table_size → Workspace P zs g ws × (Places P 0 (layer_cell * x) × Stack P zs 0 (set T most_slots (free_cell * x + temp_words g.levels)) ws)
+  pub empty_ready : {x : ℕ} (T : List ℕ) → x ≡ g.states * g.grid.levels → length T ≡ table_size → Workspace P zs g ws × (Places P 0 (layer_cell * x) × Stack P zs 0 (set T most_slots (free_cell * x + temp_words g.grid.levels)) ws)
   empty_ready {x} T e z = (a, (inl (refl, omega (arith, area_is e)), stack_empty _ T ws z (omega (arith, area_is e, a.task.shape.levels)) stack_fits))
 
   module _ {cur other : ℕ} (places : Places P cur other) where
-    pub start_ready : {x : ℕ} → x ≡ g.states * g.levels → StartReady P zs cur (free_cell * x) g ws
+    pub start_ready : {x : ℕ} → x ≡ g.states * g.grid.levels → StartReady P zs cur (free_cell * x) g ws
     start_ready e = record {
       task = a.task;
       more = omega (arith, a.some);
@@ -89,7 +89,7 @@ module _ {P : Plan} {zs : List ℤ} {g : Shape} {ws : List ℕ} (a : Workspace P
       place = omega (arith, area_is e, small);
     }
 
-    pub restarted_first : {x n : ℕ} {T ws' : List ℕ} → x ≡ g.states * g.levels → n ≡ 0 → Stepped P 1 (first_table P zs) cur (free_cell * x) ws ws' → Restarted P zs n T ws ws' (record { time = 1; cur = cur; other = other; count = n })
+    pub restarted_first : {x n : ℕ} {T ws' : List ℕ} → x ≡ g.states * g.grid.levels → n ≡ 0 → Stepped P 1 (first_table P zs) cur (free_cell * x) ws ws' → Restarted P zs n T ws ws' (record { time = 1; cur = cur; other = other; count = n })
     unfolding table_at
     restarted_first e h m = record {
       at = record { some = omega arith; most = a.some; places = places; layer = m.layer };
@@ -104,7 +104,7 @@ module _ {P : Plan} {zs : List ℤ} {g : Shape} {ws : List ℕ} (a : Workspace P
       abbrev lists : ℕ
       lists = used_at P (time_of T (n - 1)) * P.states
 
-      pub unpack_ready : {m : ℕ} → m ≡ lists → UnpackReady ws (off_of T (n - 1)) cur m g.levels
+      pub unpack_ready : {m : ℕ} → m ≡ lists → UnpackReady ws (off_of T (n - 1)) cur m g.grid.levels
       unpack_ready e = rw (e, a.task.shape.levels) (record {
         end = off_of T (n - 1 + 1);
         chain = (k.entry (n - 1) (omega arith)).packed.chain;
@@ -114,7 +114,7 @@ module _ {P : Plan} {zs : List ℤ} {g : Shape} {ws : List ℕ} (a : Workspace P
         narrow = a.task.ready.plan.narrow;
       })
 
-      pub restarted_top : {ws' : List ℕ} {m : ℕ} → m ≡ lists → Unpacked ws ws' (off_of T (n - 1)) cur m g.levels → Restarted P zs n T ws ws' (record { time = time_of T (n - 1); cur = cur; other = other; count = n })
+      pub restarted_top : {ws' : List ℕ} {m : ℕ} → m ≡ lists → Unpacked ws ws' (off_of T (n - 1)) cur m g.grid.levels → Restarted P zs n T ws ws' (record { time = time_of T (n - 1); cur = cur; other = other; count = n })
       restarted_top {ws'} e m = record {
         at = record { some = y.some; most = y.most; places = places; layer = packed_layer y.packed u };
         count = refl;
@@ -136,10 +136,10 @@ module _ {P : Plan} {zs : List ℤ} {g : Shape} {ws : List ℕ} (a : Workspace P
     pub sources : Sources P w.time (λ c. table_at P zs w.time) ws w.cur w.cur
     sources = record { stays = p.layer; changes = p.layer }
 
-    aside : {x : ℕ} → x ≡ g.states * g.levels → Aside P w.cur w.other (free_cell * x)
+    aside : {x : ℕ} → x ≡ g.states * g.grid.levels → Aside P w.cur w.other (free_cell * x)
     aside e = record { apart = ⊎_elim (λ q. inl (omega arith)) (λ q. inr (omega arith)) p.places; below = omega (arith, area_is e, layers_low p.places) }
 
-    pub step_ready : {x : ℕ} → x ≡ g.states * g.levels → w.time < length zs → StepReady P zs w.time w.cur w.cur w.other (free_cell * x) g ws
+    pub step_ready : {x : ℕ} → x ≡ g.states * g.grid.levels → w.time < length zs → StepReady P zs w.time w.cur w.cur w.other (free_cell * x) g ws
     step_ready e h = record {
       task = a.task;
       more = h;
@@ -152,7 +152,7 @@ module _ {P : Plan} {zs : List ℤ} {g : Shape} {ws : List ℕ} (a : Workspace P
       place = omega (arith, area_is e, small);
     }
 
-    pub stepped_on : {x : ℕ} {ws' : List ℕ} → x ≡ g.states * g.levels → w.time < length zs → Stepped P (suc w.time) (next_table P zs w.time (table_at P zs w.time)) w.other (free_cell * x) ws ws'
+    pub stepped_on : {x : ℕ} {ws' : List ℕ} → x ≡ g.states * g.grid.levels → w.time < length zs → Stepped P (suc w.time) (next_table P zs w.time (table_at P zs w.time)) w.other (free_cell * x) ws ws'
         → Reached P zs (w.time + 1) w.count ws ws' (record { time = w.time + 1; cur = w.other; other = w.cur; count = w.count })
     stepped_on {x} {ws'} e h m = record {
       at = record {
@@ -188,8 +188,8 @@ module _ {P : Plan} {zs : List ℤ} {g : Shape} {ws : List ℕ} (a : Workspace P
         most = omega (arith, a.task.ready.few_readings);
       }
 
-      module _ {x : ℕ} (e : x ≡ g.states * g.levels) where
-        pub pack_ready : {n : ℕ} → n ≡ here → PackReady ws w.cur (off_of T w.count) (limit_cell * x) n g.levels
+      module _ {x : ℕ} (e : x ≡ g.states * g.grid.levels) where
+        pub pack_ready : {n : ℕ} → n ≡ here → PackReady ws w.cur (off_of T w.count) (limit_cell * x) n g.grid.levels
         pack_ready q = rw (q, a.task.shape.levels) (record {
           row = row;
           below = omega (arith, layers_low p.places, lists_low w.time, off_low k w.count (omega arith));
@@ -197,7 +197,7 @@ module _ {P : Plan} {zs : List ℤ} {g : Shape} {ws : List ℕ} (a : Workspace P
           room = omega (arith, area_is e, a.room);
         })
 
-        module _ {ws' : List ℕ} {r : Option ℕ} {n : ℕ} (all : n ≡ here) (m : Saves ws ws' w.cur (off_of T w.count) (limit_cell * x) n g.levels r) where
+        module _ {ws' : List ℕ} {r : Option ℕ} {n : ℕ} (all : n ≡ here) (m : Saves ws ws' w.cur (off_of T w.count) (limit_cell * x) n g.grid.levels r) where
           saves_inside : Inside 0 (limit P) ws ws'
           saves_inside = inside_wider 0 (limit P) (omega arith) (omega (arith, area_is e)) m.inside
 

@@ -125,10 +125,10 @@ pub record Restarted (P : Plan) (zs : List ℤ) (n : ℕ) (T ws ws' : List ℕ) 
 pub record Stops (P : Plan) (g : Shape) (w : Walk) (t : ℕ) (T ws : List ℕ) : Type 0 where
   pub checked : Checked P
   pub shape : ShapeOf P g
-  pub row : Row ws w.cur (used_at P w.time * P.states) g.levels
-  pub place : w.cur + used_at P w.time * P.states * (4 * g.levels) ≤ place_most
+  pub row : Row ws w.cur (used_at P w.time * P.states) g.grid.levels
+  pub place : w.cur + used_at P w.time * P.states * (4 * g.grid.levels) ≤ place_most
   pub size : length T ≡ table_size
   pub few : w.count ≤ most_slots
-  pub top : off_of T w.count ≤ limit_cell * (g.states * g.levels)
+  pub top : off_of T w.count ≤ limit_cell * (g.states * g.grid.levels)
   pub before : w.time < t
   pub most : t ≤ 4096

@@ -38,9 +38,9 @@ pub struct Walk {
 // States times levels: S · L above.
 fn area(g: Shape) -> usize
     requires { Shape-small g }
-    ensures { (result ≡ g.states * g.levels) × (result ≤ 8192) }
+    ensures { (result ≡ g.states * g.grid.levels) × (result ≤ 8192) }
 {
-    g.states * (g.levels as usize)
+    g.states * (g.grid.levels as usize)
 }
 
 // How many lists the layer after t readings has.
@@ -152,7 +152,7 @@ fn next_stop(
     }
     let free = ALL_WORDS * area(problem.shape) - table[SLOTS + n];
     let lists = lists_at(problem, walk.time);
-    let words = words_of(ws, walk.cur, lists, problem.shape.levels);
+    let words = words_of(ws, walk.cur, lists, problem.shape.grid.levels);
     let c = free_slots(words, free, slots - n);
     next_save(walk.time, t, c)
 }
@@ -206,7 +206,7 @@ fn restart(
     let time = table[top];
     let at = table[SLOTS + top];
     let lists = lists_at(problem, time);
-    unpack(ws, at, cur, lists, problem.shape.levels);
+    unpack(ws, at, cur, lists, problem.shape.grid.levels);
     Walk {
         time,
         cur,
@@ -259,7 +259,7 @@ fn go_on(
     let at = table[SLOTS + n];
     let limit = ALL_WORDS * area(problem.shape);
     let lists = lists_at(problem, w.time);
-    let Some(e) = pack(ws, w.cur, at, limit, lists, problem.shape.levels) else {
+    let Some(e) = pack(ws, w.cur, at, limit, lists, problem.shape.grid.levels) else {
         return w;
     };
     push(table, n, w.time, e);
@@ -293,7 +293,7 @@ pub fn begin(ws: &mut [u64], problem: &Problem, table: &mut [usize]) -> Walk
     ensures { Walked problem.now.plan.now problem.now.readings.now 1 table.new ws.old ws.new result }
 {
     let a = area(problem.shape);
-    table[SLOTS] = FREE_AT * a + layer::TEMP_WORDS * (problem.shape.levels as usize);
+    table[SLOTS] = FREE_AT * a + layer::TEMP_WORDS * (problem.shape.grid.levels as usize);
     restart(ws, problem, 0, layer::LAYER_WORDS * a, table, 0)
 }
 
