@@ -15,8 +15,9 @@ ghost use Rattle.back.specs.Step.{MayOffer, Offers, meets_at, BackReady, StepTo}
 ghost use Rattle.back.specs.Read.{Readable, Reads, EndTo};
 
 use curve::Low;
+use labels::{Boundary, Key};
 use layer::{Problem, Shape};
-use plan::{Edge, Label};
+use plan::Edge;
 
 // A cost with its changes, and the state and the level's index that have it.
 #[derive(Clone, Copy)]
@@ -36,7 +37,7 @@ fn better_end(ws: &[u64], problem: &Problem, cur: usize, s: usize, best: End) ->
         return best;
     }
     let levels = problem.shape.levels;
-    let f = layer::list_at(cur, problem.shape, 0, s);
+    let f = layer::list_at(cur, problem.shape, Key { count: 0, state: s });
     let low = curve::least_in(ws, f, 0, levels - 1, levels, problem.shape.base);
     if quadratic::comes_first(low.value, low.changes, best.value, best.changes) {
         End {
@@ -75,37 +76,30 @@ pub fn point_cost(ws: &[u64], cur: usize, g: Shape, n: usize, s: usize, j: u64) 
 {
     let mut best = quadratic::NONE;
     for k in 0..n {
-        let f = layer::list_at(cur, g, k, s);
+        let f = layer::list_at(cur, g, Key { count: k, state: s });
         let here = curve::value_at(ws, f, j, g.levels, g.base);
         best = best.min(here.value);
     }
     best
 }
 
-// What an edge offers at boundary t to list (k, s) at index j, with the lowest level it comes from; none, or more, where it offers nothing.
-fn offer_of(
-    ws: &[u64],
-    e: Edge,
-    on: Option<Label>,
-    t: usize,
-    cur: usize,
-    k: usize,
-    s: usize,
-    j: u64,
-    g: Shape,
-) -> Low
-    requires { Readable (used (label_of on)) cur g ws.now × MayOffer (label_of on) t e k s j g }
-    ensures { Offers (label_of on) t e k s j cur g ws.now result }
+// What an edge offers at a boundary to a list at index j, with the lowest level it comes from; none, or more, where it offers nothing.
+fn offer_of(ws: &[u64], e: Edge, boundary: Boundary, cur: usize, key: Key, j: u64, g: Shape) -> Low
+    requires { Readable (used (label_of boundary.label)) cur g ws.now × MayOffer (label_of boundary.label) boundary.t e key.count key.state j g }
+    ensures { Offers (label_of boundary.label) boundary.t e key.count key.state j cur g ws.now result }
 {
-    if !labels::leads(on, t, e, k, s) {
+    if !labels::leads(boundary, e, key) {
         return Low {
             value: quadratic::NONE,
             changes: 0,
             level: 0,
         };
     }
-    let before = labels::count_before(on, t, e.kind, k);
-    let f = layer::list_at(cur, g, before, e.from as usize);
+    let source = Key {
+        count: labels::count_before(boundary, e.kind, key.count),
+        state: e.from as usize,
+    };
+    let f = layer::list_at(cur, g, source);
     edges::least_before(ws, f, e.kind, j, g.levels, g.base)
 }
 
@@ -126,26 +120,24 @@ pub struct Step {
     pub changes: u64,
 }
 
-// The step back over boundary t from list (k, s) at index j: the lowest edge whose offer with its penalty and its change is the wanted cost with the wanted
+// The step back over a boundary from a list at index j: the lowest edge whose offer with its penalty and its change is the wanted cost with the wanted
 // changes, from its lowest level. Edges and levels of the same cost and more changes are passed over. None where there is no such edge.
 pub fn step_back(
     ws: &[u64],
     problem: &Problem,
-    on: Option<Label>,
-    t: usize,
+    boundary: Boundary,
     cur: usize,
-    k: usize,
-    s: usize,
+    key: Key,
     j: u64,
     want: u64,
     changes: u64,
 ) -> Option<Step>
-    requires { Readable (used (label_of on)) cur problem.now.shape ws.now × (BackReady problem.now.plan.now (label_of on) t k s j problem.now.shape × (changes ≤ count_limit)) }
-    ensures { (H : Table) → Reads (used (label_of on)) cur problem.now.shape ws.now H → StepTo problem.now.plan.now t H k s j (lex want changes) result }
+    requires { Readable (used (label_of boundary.label)) cur problem.now.shape ws.now × (BackReady problem.now.plan.now (label_of boundary.label) boundary.t key.count key.state j problem.now.shape × (changes ≤ count_limit)) }
+    ensures { (H : Table) → Reads (used (label_of boundary.label)) cur problem.now.shape ws.now H → StepTo problem.now.plan.now boundary.t H key.count key.state j (lex want changes) result }
 {
     for i in 0..problem.plan.edgecount {
         let e = coded::edge_in(problem.code, i);
-        let low = offer_of(ws, e, on, t, cur, k, s, j, problem.shape);
+        let low = offer_of(ws, e, boundary, cur, key, j, problem.shape);
         let pen = plan::penalty_of(e.class);
         let ch = labels::change_of(e.kind) as u64;
         if meets(low, pen, ch, want, changes) {

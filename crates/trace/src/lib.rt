@@ -9,6 +9,7 @@ ghost use Rattle.quadratic.specs.Fine.{far};
 ghost use Rattle.runs.specs.Runs.{five_of};
 ghost use Rattle.trace.specs.Trace.{StepReady, StepMade};
 
+use labels::{Boundary, Key};
 use layer::Problem;
 use plan::{Edge, Kind};
 use runs::Run;
@@ -69,17 +70,20 @@ pub fn step(
     requires { StepReady problem.now.plan.now problem.now.readings.now t cur problem.now.shape from ws.now out.old }
     ensures { StepMade problem.now.plan.now problem.now.readings.now t from result out.old out.new }
 {
-    let on = labels::label_on(problem.plan, problem.code, t);
+    let label = labels::label_on(problem.plan, problem.code, t);
+    let boundary = Boundary { t, label };
+    let key = Key {
+        count: from.count,
+        state: from.state,
+    };
     let u = integers::bias(problem.readings[t]);
     let want = from.value - square_of(u, problem.shape.base + from.level);
     let Some(found) = back::step_back(
         ws,
         problem,
-        on,
-        t,
+        boundary,
         cur,
-        from.count,
-        from.state,
+        key,
         from.level,
         want,
         from.changes,
@@ -88,7 +92,7 @@ pub fn step(
     };
     let e = coded::edge_in(problem.code, found.edge);
     let before = Point {
-        count: labels::count_before(on, t, e.kind, from.count),
+        count: labels::count_before(boundary, e.kind, from.count),
         state: e.from as usize,
         level: found.level,
         value: found.value,
