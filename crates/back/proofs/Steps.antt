@@ -4,41 +4,26 @@ use mathlib.Core.Logic.{◌⊎◌, inl, inr, ⊎_elim}
 use mathlib.Core.List.{List}
 use mathlib.Core.Option.{Option}
 use mathlib.Core.Bool.{Bool, true, false, ◌&&◌}
-use Prim.Native.Nat.{ℕ, ◌+◌, ◌≤◌, ◌<◌}
+use Prim.Native.Nat.{ℕ, ◌+◌, ◌<◌}
 use native.Mathlib.Omega.{arith}
 use lib.Dec.{eqb, ltb}
-use borrow.Author.Tests.{ltb-true, eqb-true, lt-ltb, eq-eqb, ne_eqb}
+use borrow.Author.Tests.{ltb-true, eqb-true, lt-ltb, eq-eqb}
 use Rattle.integers.specs.Rep.{le_or_lt}
 use Rattle.integers.specs.Pairs.{lex}
-use Rattle.quadratic.specs.Quad.{none, count_limit}
 use Rattle.plan.specs.declared.Plan.{Plan}
 use Rattle.plan.specs.declared.Edge.{Edge}
 use Rattle.plan.specs.declared.Label.{Label}
-use Rattle.model.proofs.Bools.{same_test}
 use Rattle.model.specs.Model.{width, edge_at, penalty, change_of}
 use Rattle.model.specs.Labels.{used, count_before}
 use Rattle.model.specs.Index.{no_cost, Permitted}
 use Rattle.model.specs.Held.{Table, from_count, leads_at, edge_weight}
 use Rattle.labels.specs.Boundary.{leads_from, leads_at_lem, leads_from_used}
 use Rattle.curve.specs.declared.Low.{Low}
-use Rattle.curve.specs.Pieces.{piece}
-use Rattle.curve.specs.Lows.{low_of, costs}
+use Rattle.curve.specs.Lows.{low_of}
 use Rattle.edges.specs.Back.{LeastOf, Offered, offered, offered_none, least_same}
 use Rattle.layer.specs.declared.Shape.{Shape}
-use Rattle.layer.specs.Step.{source}
 use Rattle.back.specs.Read.{Reads}
-use Rattle.back.specs.Step.{meets_at, MayOffer, Offers, BackReady, Meets, StepFound}
-
-pub offers_none : (o : Option Label) (t : ℕ) (x : Edge) (k s j cur : ℕ) (g : Shape) (ws : List ℕ) (r : Low) → leads_from o t x k s ≡ false → no_cost ≤ low_of r → r.changes ≤ count_limit → Offers o t x k s j cur g ws r
-offers_none o t x k s j cur g ws r e h n = record { changes = n; off = λ q. h; on = λ q. let z : ◌≡◌ {A = Bool} true false = sym q ∙ e in let y : ◌≡◌ {A = ℕ} 0 1 = cc in absurd (omega arith) }
-
-pub offers_some : (o : Option Label) (t : ℕ) (x : Edge) (k s j cur : ℕ) (g : Shape) (ws : List ℕ) (r : Low) (f : ℕ) → leads_from o t x k s ≡ true → f ≡ source o t x k cur g
-    → LeastOf (λ (i : ℕ). Permitted x.kind i j) g.levels (costs g.base (piece ws f g.levels)) r → Offers o t x k s j cur g ws r
-offers_some o t x k s j cur g ws r f e ef l = record {
-  changes = l.changes;
-  off = λ q. let z : ◌≡◌ {A = Bool} true false = sym e ∙ q in let y : ◌≡◌ {A = ℕ} 0 1 = cc in absurd (omega arith);
-  on = λ q. subst (λ (p : ℕ). LeastOf (λ (i : ℕ). Permitted x.kind i j) g.levels (costs g.base (piece ws p g.levels)) r) ef l;
-}
+use Rattle.back.specs.Step.{meets_at, Offers, BackReady, Meets, StepFound}
 
 -- ---- the tests
 
@@ -52,25 +37,6 @@ meets_yes v p w h = go (ltb v no_cost) refl h
 meets_low : (v p w : ℕ) → v < no_cost → eqb (v + p) w ≡ meets_at v p w
 meets_low v p w h = rw (lt-ltb v no_cost h) refl
 
--- by the cost, and then by the changes
-module _ (low : Low) (pen ch want changes : ℕ) (one : ch ≤ 1) (few-low : low.changes ≤ count_limit) (few-want : changes ≤ count_limit) where
-  pub meets_none : none ≤ low.value → false ≡ meets_at (low_of low) (lex pen ch) (lex want changes)
-  meets_none h = go (ltb (low_of low) no_cost) refl
-    where
-      go : (b : Bool) → ltb (low_of low) no_cost ≡ b → false ≡ b && eqb (low_of low + lex pen ch) (lex want changes)
-      go true e = absurd (omega (arith, ltb-true (low_of low) no_cost e))
-      go false e = refl
-
-  pub meets_cost : low.value < none → low.value + pen ≡ want → eqb (low.changes + ch) changes ≡ meets_at (low_of low) (lex pen ch) (lex want changes)
-  meets_cost h e =
-      same_test (eqb (low.changes + ch) changes) (eqb (low_of low + lex pen ch) (lex want changes))
-      (λ p. eq-eqb (low_of low + lex pen ch) (lex want changes) (omega (arith, eqb-true (low.changes + ch) changes p)))
-      (λ p. eq-eqb (low.changes + ch) changes (omega (arith, eqb-true (low_of low + lex pen ch) (lex want changes) p)))
-      ∙ meets_low (low_of low) (lex pen ch) (lex want changes) (omega arith)
-
-  pub meets_other : low.value < none → (low.value + pen ≡ want → ⊥) → false ≡ meets_at (low_of low) (lex pen ch) (lex want changes)
-  meets_other h n = sym (ne_eqb (low_of low + lex pen ch) (lex want changes) (λ e. n (omega arith))) ∙ meets_low (low_of low) (lex pen ch) (lex want changes) (omega arith)
-
 -- ---- one edge
 
 module _ {P : Plan} {o : Option Label} {t k s j : ℕ} {g : Shape} (a : BackReady P o t k s j g) where
@@ -80,15 +46,6 @@ module _ {P : Plan} {o : Option Label} {t k s j : ℕ} {g : Shape} (a : BackRead
   count_is : (e : ℕ) → count_before o t (edge_at P e).kind k ≡ from_count P t e k
   unfolding from_count
   count_is e = ap (λ (x : Option Label). count_before x t (edge_at P e).kind k) a.on
-
-  pub may_offer : (e : ℕ) → e < P.edgecount → MayOffer o t (edge_at P e) k s j g
-  may_offer e h = record {
-    boundary = omega (arith, a.boundary);
-    count = a.count;
-    index = omega (arith, a.index, a.shape.levels);
-    from = omega (arith, (a.checked.edge e h).from_below, a.shape.states);
-    gap = (a.checked.edge e h).gap_low;
-  }
 
   module _ {cur : ℕ} {ws : List ℕ} {H : Table} (r : Reads (used o) cur g ws H) (want e : ℕ) (h : e < P.edgecount) (low : Low) (f : Offers o t (edge_at P e) k s j cur g ws low) where
     -- what the list costs that the edge comes from
@@ -138,10 +95,6 @@ module _ {P : Plan} {o : Option Label} {t k s j : ℕ} {g : Shape} (a : BackRead
               at = q.at;
               first = q.first;
             }
-
--- the edge as code copied it
-pub may_offer_of : {P : Plan} {o : Option Label} {t k s j : ℕ} {g : Shape} (a : BackReady P o t k s j g) (e : ℕ) (x : Edge) → e < P.edgecount → x ≡ edge_at P e → MayOffer o t x k s j g
-may_offer_of {P} {o} {t} {k} {s} {j} {g} a e x h q = subst (λ (y : Edge). MayOffer o t y k s j g) (sym q) (may_offer a e h)
 
 module _ (P : Plan) (e : ℕ) (x : Edge) (q : x ≡ edge_at P e) where
   pub offers_of : {o : Option Label} {t k s j cur : ℕ} {g : Shape} {ws : List ℕ} {low : Low} → Offers o t x k s j cur g ws low → Offers o t (edge_at P e) k s j cur g ws low

@@ -1,5 +1,5 @@
 -- The step back over one boundary. Assumes nothing.
-use Rattle.std.specs.Prelude.{◌≡◌, List, Bool, true, false, ◌&&◌, ℕ, ◌+◌, ◌≤◌, ◌<◌, eqb, ltb}
+use Rattle.std.specs.Prelude.{◌≡◌, List, Bool, true, false, ◌&&◌, ℕ, ◌+◌, ◌≤◌, ◌<◌, eqb, ltb, Option as Maybe, Some, None}
 use Rattle.std.proofs.Math.Option.{Option}
 use Rattle.plan.specs.declared.Plan.{Plan}
 use Rattle.plan.specs.declared.Edge.{Edge}
@@ -20,8 +20,7 @@ use Rattle.edges.specs.Back.{LeastOf}
 use Rattle.layer.specs.declared.Shape.{Shape}
 use Rattle.layer.specs.Layer.{ShapeOf}
 use Rattle.layer.specs.Step.{source}
-use Rattle.back.specs.declared.Back.{Back}
-use Rattle.back.specs.declared.Back.TheVariants.{To, Lost}
+use Rattle.back.specs.declared.Step.{Step}
 
 -- a value there is, which with the edge's weight is the wanted one
 abbrev pub meets_at : ℕ → ℕ → ℕ → Bool
@@ -62,6 +61,6 @@ pub record StepFound (P : Plan) (t : ℕ) (H : Table) (k s j want e i v : ℕ) :
   pub at : H (from_count P t e k) (edge_at P e).from i ≡ edge_least P t H k j e
   pub first : (i' : ℕ) → i' < i → Permitted (edge_at P e).kind i' j → H (from_count P t e k) (edge_at P e).from i' ≡ edge_least P t H k j e → ⊥
 
-abbrev pub StepTo : Plan → ℕ → Table → ℕ → ℕ → ℕ → ℕ → Back → Type 0
-StepTo P t H k s j want (To e i v c) = StepFound P t H k s j want e i (lex v c) × (c ≤ count_limit)
-StepTo P t H k s j want Lost = (e : ℕ) → e < P.edgecount → Meets P t H k s j want e → ⊥
+abbrev pub StepTo : Plan → ℕ → Table → ℕ → ℕ → ℕ → ℕ → Maybe Step → Type 0
+StepTo P t H k s j want (Some b) = StepFound P t H k s j want b.edge b.level (lex b.value b.changes) × (b.changes ≤ count_limit)
+StepTo P t H k s j want None = (e : ℕ) → e < P.edgecount → Meets P t H k s j want e → ⊥

@@ -13,12 +13,11 @@ ghost use Rattle.layer.specs.Layer.{ShapeOf};
 ghost use Rattle.coded.specs.Coded.{Coded};
 ghost use Rattle.labels.specs.Boundary.{label_of};
 ghost use Rattle.back.specs.Step.{MayOffer, Offers, meets_at, BackReady, StepTo};
-ghost use Rattle.back.specs.Read.{Readable, Reads, EndTo, lesser_of};
+ghost use Rattle.back.specs.Read.{Readable, Reads, EndTo};
 
 use curve::Low;
-use labels::Cover;
 use layer::Shape;
-use plan::{Edge, Plan};
+use plan::{Edge, Label, Plan};
 
 // A cost with its changes, and the state and the level's index that have it.
 #[derive(Clone, Copy)]
@@ -58,25 +57,16 @@ pub fn best_end(ws: &[u64], plan: Plan, cur: usize, g: Shape) -> End
     requires { Readable 1 cur g ws.now × ShapeOf plan g }
     ensures { (result.changes ≤ count_limit) × ((H : Table) → Reads 1 cur g ws.now H → EndTo plan H plan.states result) }
 {
-    let states = g.states;
     let mut best = End {
         value: quadratic::NONE,
         changes: 0,
         state: 0,
         level: 0,
     };
-    let mut s = 0;
-    while s < states {
+    for s in 0..g.states {
         best = better_end(ws, plan, cur, g, s, best);
-        s += 1;
     }
     best
-}
-
-fn lesser(a: u64, b: u64) -> u64
-    ensures { result ≡ lesser_of a b }
-{
-    if b < a { b } else { a }
 }
 
 // The least cost over the first n counts of what ends in state s at the level with index j.
@@ -85,12 +75,10 @@ pub fn point_cost(ws: &[u64], cur: usize, g: Shape, n: usize, s: usize, j: u64) 
     ensures { (H : Table) → Reads n cur g ws.now H → result ≡ point_at n H s j / unit }
 {
     let mut best = quadratic::NONE;
-    let mut k = 0;
-    while k < n {
+    for k in 0..n {
         let f = layer::list_at(cur, g, k, s);
         let here = curve::value_at(ws, f, j, g.levels, g.base);
-        best = lesser(best, here.value);
-        k += 1;
+        best = best.min(here.value);
     }
     best
 }
@@ -99,7 +87,7 @@ pub fn point_cost(ws: &[u64], cur: usize, g: Shape, n: usize, s: usize, j: u64) 
 fn offer_of(
     ws: &[u64],
     e: Edge,
-    on: Cover,
+    on: Option<Label>,
     t: usize,
     cur: usize,
     k: usize,
@@ -117,10 +105,9 @@ fn offer_of(
             level: 0,
         };
     }
-    let kind = e.kind;
-    let before = labels::count_before(on, t, kind, k);
+    let before = labels::count_before(on, t, e.kind, k);
     let f = layer::list_at(cur, g, before, e.from as usize);
-    edges::least_before(ws, f, kind, j, g.levels, g.base)
+    edges::least_before(ws, f, e.kind, j, g.levels, g.base)
 }
 
 // A cost there is, which with the penalty is the wanted one, and which has the wanted changes with those of the edge.
@@ -128,35 +115,25 @@ fn meets(low: Low, pen: u64, ch: u64, want: u64, changes: u64) -> bool
     requires { ((pen ≤ 1152921504606846976) × (ch ≤ 1)) × ((low.changes ≤ count_limit) × (changes ≤ count_limit)) }
     ensures { result ≡ meets_at (low_of low) (lex pen ch) (lex want changes) }
 {
-    if low.value >= quadratic::NONE {
-        return false;
-    }
-    if low.value + pen == want {
-        low.changes + ch == changes
-    } else {
-        false
-    }
+    low.value < quadratic::NONE && low.value + pen == want && low.changes + ch == changes
 }
 
 // The edge and the level's index before a boundary, and the cost there with its changes.
 #[derive(Clone, Copy)]
-pub enum Back {
-    To {
-        edge: usize,
-        level: u64,
-        value: u64,
-        changes: u64,
-    },
-    Lost,
+pub struct Step {
+    pub edge: usize,
+    pub level: u64,
+    pub value: u64,
+    pub changes: u64,
 }
 
 // The step back over boundary t from list (k, s) at index j: the lowest edge whose offer with its penalty and its change is the wanted cost with the wanted
-// changes, from its lowest level. Edges and levels of the same cost and more changes are passed over.
+// changes, from its lowest level. Edges and levels of the same cost and more changes are passed over. None where there is no such edge.
 pub fn step_back(
     ws: &[u64],
     plan: Plan,
     code: &[u64],
-    on: Cover,
+    on: Option<Label>,
     t: usize,
     cur: usize,
     k: usize,
@@ -165,27 +142,23 @@ pub fn step_back(
     want: u64,
     changes: u64,
     g: Shape,
-) -> Back
+) -> Option<Step>
     requires { Readable (used (label_of on)) cur g ws.now × ((BackReady plan (label_of on) t k s j g × (changes ≤ count_limit)) × Coded plan code.now) }
     ensures { (H : Table) → Reads (used (label_of on)) cur g ws.now H → StepTo plan t H k s j (lex want changes) result }
 {
-    let n = plan.edgecount;
-    let mut i = 0;
-    while i < n {
+    for i in 0..plan.edgecount {
         let e = coded::edge_in(code, i);
         let low = offer_of(ws, e, on, t, cur, k, s, j, g);
         let pen = plan::penalty_of(e.class);
-        let kind = e.kind;
-        let ch = labels::change_of(kind) as u64;
+        let ch = labels::change_of(e.kind) as u64;
         if meets(low, pen, ch, want, changes) {
-            return Back::To {
+            return Some(Step {
                 edge: i,
                 level: low.level,
                 value: low.value,
                 changes: low.changes,
-            };
+            });
         }
-        i += 1;
     }
-    Back::Lost
+    None
 }

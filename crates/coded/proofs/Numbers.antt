@@ -16,7 +16,7 @@ use Rattle.plan.specs.Build.{kind_number, gap_of}
 use Rattle.plan.proofs.ByNumber.{no_kind}
 use Rattle.integers.specs.Rep.{le_or_lt}
 use Rattle.model.specs.Model.{edge_at, label_at}
-use Rattle.coded.specs.Coded.{kind_with, edge_in, label_in, edge_number, label_number, EdgesFrom, LabelsFrom, Numbered, listed, code_of, Written}
+use Rattle.coded.specs.Coded.{kind_with, edge_in, label_in, edge_number, label_number, LabelsFrom, Numbered, listed, code_of, Written}
 
 kind_back : (k : Kind) → kind_with (kind_number k) (gap_of k) ≡ k
 kind_back Stay = refl
@@ -84,58 +84,7 @@ label_read w = refl
 
 -- ---- one more in the list
 
-pub edges_none : (P : Plan) (code : List ℕ) → length code ≡ 98 → EdgesFrom P 0 code
-edges_none P code z = record { size = z; edges = λ i h. absurd (omega arith) }
-
-pub edges_more : (P : Plan) (n w : ℕ) (code : List ℕ) → n < 32 → EdgesFrom P n code → edge_in w ≡ edge_at P n → EdgesFrom P (n + 1) (set code n w)
-edges_more P n w code h f e = record { size = length-set code n w ∙ f.size; edges = λ i g. go i g (dec_lt i n) }
-  where
-    go : (i : ℕ) → i < n + 1 → Dec (i < n) → edge_in (get_or (set code n w) i 0) ≡ edge_at P i
-    go i g (yes d) = ap edge_in (get_or-set_other code n i w 0 (λ z. omega arith)) ∙ f.edges i d
-    go i g (no d) =
-        let z : i ≡ n = omega arith in
-        ap (λ (k : ℕ). edge_in (get_or (set code n w) k 0)) z ∙ ap edge_in (get_or-set_same code n w 0 (omega (arith, f.size))) ∙ e ∙ ap (edge_at P) (sym z)
-
-pub labels_none : (P : Plan) (code : List ℕ) → EdgesFrom P 32 code → LabelsFrom P 0 code
-labels_none P code f = record { front = f; labels = λ i h. absurd (omega arith) }
-
-pub labels_more : (P : Plan) (n w : ℕ) (code : List ℕ) → n < 64 → LabelsFrom P n code → label_in w ≡ label_at P n → LabelsFrom P (n + 1) (set code (32 + n) w)
-labels_more P n w code h f e = record {
-  front = record {
-    size = length-set code (32 + n) w ∙ f.front.size;
-    edges = λ i g. ap edge_in (get_or-set_other code (32 + n) i w 0 (λ z. omega arith)) ∙ f.front.edges i g;
-  };
-  labels = λ i g. go i g (dec_lt i n);
-}
-  where
-    go : (i : ℕ) → i < n + 1 → Dec (i < n) → label_in (get_or (set code (32 + n) w) (32 + i) 0) ≡ label_at P i
-    go i g (yes d) = ap label_in (get_or-set_other code (32 + n) (32 + i) w 0 (λ z. omega arith)) ∙ f.labels i d
-    go i g (no d) =
-        let z : i ≡ n = omega arith in
-        ap (λ (k : ℕ). label_in (get_or (set code (32 + n) w) (32 + k) 0)) z ∙ ap label_in (get_or-set_same code (32 + n) w 0 (omega (arith, f.front.size))) ∙ e ∙ ap (label_at P) (sym z)
-
 -- ---- the list is the plan's
-
-pub numbered_none : (P : Plan) (code : List ℕ) → Numbered P 0 0 code
-numbered_none P code = record { edge = λ i h. absurd (omega arith); label = λ i h. absurd (omega arith) }
-
-pub numbered_edge : (P : Plan) (n w : ℕ) (code : List ℕ) → n < 32 → length code ≡ 98 → Numbered P n 0 code → w ≡ edge_number (edge_at P n) → Numbered P (n + 1) 0 (set code n w)
-numbered_edge P n w code h z f e = record { edge = λ i g. go i g (dec_lt i n); label = λ i g. absurd (omega arith) }
-  where
-    go : (i : ℕ) → i < n + 1 → Dec (i < n) → get_or (set code n w) i 0 ≡ edge_number (edge_at P i)
-    go i g (yes d) = get_or-set_other code n i w 0 (λ q. omega arith) ∙ f.edge i d
-    go i g (no d) =
-        let q : i ≡ n = omega arith in
-        ap (λ (k : ℕ). get_or (set code n w) k 0) q ∙ get_or-set_same code n w 0 (omega arith) ∙ e ∙ ap (λ (k : ℕ). edge_number (edge_at P k)) (sym q)
-
-pub numbered_label : (P : Plan) (n w : ℕ) (code : List ℕ) → n < 64 → length code ≡ 98 → Numbered P 32 n code → w ≡ label_number (label_at P n) → Numbered P 32 (n + 1) (set code (32 + n) w)
-numbered_label P n w code h z f e = record { edge = λ i g. get_or-set_other code (32 + n) i w 0 (λ q. omega arith) ∙ f.edge i g; label = λ i g. go i g (dec_lt i n) }
-  where
-    go : (i : ℕ) → i < n + 1 → Dec (i < n) → get_or (set code (32 + n) w) (32 + i) 0 ≡ label_number (label_at P i)
-    go i g (yes d) = get_or-set_other code (32 + n) (32 + i) w 0 (λ q. omega arith) ∙ f.label i d
-    go i g (no d) =
-        let q : i ≡ n = omega arith in
-        ap (λ (k : ℕ). get_or (set code (32 + n) w) (32 + k) 0) q ∙ get_or-set_same code (32 + n) w 0 (omega arith) ∙ e ∙ ap (λ (k : ℕ). label_number (label_at P k)) (sym q)
 
 listed_length : (f : ℕ → ℕ) (i n : ℕ) → length (listed f i n) ≡ n
 unfolding listed

@@ -94,11 +94,8 @@ fn put_edges(plan: Plan, code: &mut [u64])
     requires { length code.old ≡ 98 }
     ensures { EdgesFrom plan 32 code.new × Numbered plan 32 0 code.new }
 {
-    let mut i = 0;
-    while i < Plan::MAX_EDGES {
-        let e = plan.edges[i];
-        code[i] = edge_number(e);
-        i += 1;
+    for i in 0..Plan::MAX_EDGES {
+        code[i] = edge_number(plan.edges[i]);
     }
 }
 
@@ -106,11 +103,8 @@ fn put_labels(plan: Plan, code: &mut [u64])
     requires { EdgesFrom plan 32 code.old × Numbered plan 32 0 code.old }
     ensures { LabelsFrom plan 64 code.new × Numbered plan 32 64 code.new }
 {
-    let mut i = 0;
-    while i < Plan::MAX_LABELS {
-        let l = plan.labels[i];
-        code[Plan::MAX_EDGES + i] = label_number(l);
-        i += 1;
+    for i in 0..Plan::MAX_LABELS {
+        code[Plan::MAX_EDGES + i] = label_number(plan.labels[i]);
     }
 }
 

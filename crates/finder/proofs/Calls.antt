@@ -9,26 +9,31 @@ use lib.ListN.{length}
 use borrow.Author.Tests.{eq-eqb, ne_eqb}
 use Rattle.plan.specs.declared.Plan.{Plan}
 use Rattle.integers.specs.Pick.{pick}
-use Rattle.plan.specs.declared.Answer.{Answer}
-use Rattle.plan.specs.declared.Answer.TheVariants.{Done, Refused}
+use Rattle.plan.specs.Build.{Answer}
+use Rattle.plan.specs.Build.{Done, Refused}
 use Rattle.model.specs.Result.{Result, found, refused, Costs, cost_list, no_costs}
-use Rattle.search.specs.declared.Found.{Found}
-use Rattle.search.specs.declared.Found.TheVariants.{Segmentation}
-use Rattle.search.specs.declared.Cost.{Cost}
+use Rattle.search.specs.Told.{Found}
+use Rattle.search.specs.Told.{Segmentation}
+use Rattle.search.specs.Told.{Cost}
 use Rattle.search.specs.Search.{search_result, point_result, found_of, cost_of, runs_after, words_after}
-use Rattle.search.specs.declared.Filled.{Filled}
+use Rattle.search.specs.ToldCosts.{Filled}
 use Rattle.search.specs.Costs.{filled_of, costs_after}
 use Rattle.windows.specs.Windows.{window_result, window_words}
 use Rattle.neighbourhood.specs.Neighbourhood.{table_result, table_words_after}
 use Rattle.readings.specs.Codec.{decode_number, decoded}
 use Rattle.fields.specs.Fields.{part_of}
-use Rattle.fields.specs.declared.Written.{Written}
-use Rattle.files.specs.declared.FileRead.{FileRead}
-use Rattle.files.specs.Reader.{plan_file, readings_part}
+use Rattle.fields.specs.Put.{Written}
+use Rattle.files.specs.Reader.{FileRead}
+use Rattle.files.specs.Reader.{plan_file, refused_file, readings_part}
+use Rattle.std.specs.Prelude as Std
+use Rattle.std.specs.Prelude.{Ok, Err}
+use Rattle.plan.specs.declared.reasons.Refusal.{Refusal}
+use Rattle.search.specs.ToldCosts.{filled_told}
+use Rattle.fields.specs.Put.{written_of}
 use Rattle.files.specs.Writer.{plan_written, after_writing}
 use Rattle.finder.specs.declared.Outcome.{Outcome}
 use Rattle.finder.specs.Finder.{given, refused_with, search_outcome, point_outcome, written_outcome, costs_outcome, on_plan, search_file, point_file, file_words, file_costs, file_left, window_file, window_file_words, table_file, table_file_words, readings_number, read_outcome, file_readings, rewritten, after_rewriting}
-use Rattle.finder.specs.Parts.{found_outcome, cost_outcome, filled_outcome, runs_in, found_written, after_found}
+use Rattle.finder.specs.Parts.{counted_outcome, found_outcome, cost_outcome, filled_outcome, runs_in, found_written, after_found}
 
 found_outcome_lem : (r : Result) → found_outcome (found_of r) ≡ search_outcome r
 found_outcome_lem (found c ns) = refl
@@ -41,6 +46,20 @@ cost_outcome_lem (refused n) = refl
 filled_outcome_lem : (r : Costs) → filled_outcome (filled_of r) ≡ costs_outcome r
 filled_outcome_lem (cost_list cs) = refl
 filled_outcome_lem (no_costs n) = refl
+
+-- what the code counts is what the contracts say of bytes and of costs
+pub counted_written : (r : Std.Result ℕ Refusal) → counted_outcome r ≡ written_outcome (written_of r)
+counted_written (Ok n) = refl
+counted_written (Err x) = refl
+
+pub counted_filled : (r : Std.Result ℕ Refusal) → counted_outcome r ≡ filled_outcome (filled_told r)
+counted_filled (Ok n) = refl
+counted_filled (Err x) = refl
+
+-- a refused file answers its refusal
+pub refused_answer : (n : ℕ) → (refused_file n).answer ≡ Refused n
+unfolding refused_file
+refused_answer n = refl
 
 module _ (s : List ℕ) (r : FileRead) (e : r ≡ plan_file s) where
   -- the file has no plan

@@ -5,8 +5,8 @@ use Prim.Native.Nat.{ℕ, ◌≤◌}
 use native.Mathlib.Omega.{arith}
 use lib.ListN.{length, take}
 use lib.Seq.{take_all, take-take}
-use Rattle.plan.specs.declared.Answer.{Answer}
-use Rattle.plan.specs.declared.Answer.TheVariants.{Done, Refused}
+use Rattle.plan.specs.Build.{Answer}
+use Rattle.plan.specs.Build.{Done, Refused}
 use Rattle.model.specs.Result.{refused}
 use Rattle.readings.specs.Trips.{AllBytes}
 use Rattle.plan.specs.Counts.{count_is}

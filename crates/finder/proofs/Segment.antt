@@ -11,17 +11,17 @@ use lib.ListN.{length, take, drop, length-append}
 use lib.Seq.{take_at}
 use borrow.Author.Tests.{eq-eqb, ne_eqb, eqb-true, le-leb, leb-true}
 use Rattle.integers.specs.Pick.{pick}
-use Rattle.plan.specs.declared.Answer.TheVariants.{Done, Refused}
+use Rattle.plan.specs.Build.{Done, Refused}
 use Rattle.model.specs.Result.{Result, found, refused}
-use Rattle.search.specs.declared.Found.{Found}
+use Rattle.search.specs.Told.{Found}
 use Rattle.search.specs.Search.{search_result, found_of, runs_after, words_left, words_after}
 use Rattle.readings.specs.Codec.{readings_of, decode_number, decoded}
 use Rattle.plan.specs.Counts.{count_ok}
 use Rattle.readings.proofs.Trips.{readings_length}
 use Rattle.fields.specs.Fields.{part_of}
 use Rattle.fields.specs.Put.{outcome, written}
-use Rattle.fields.specs.declared.Written.{Written}
-use Rattle.files.specs.declared.FileRead.{FileRead}
+use Rattle.fields.specs.Put.{Written}
+use Rattle.files.specs.Reader.{FileRead}
 use Rattle.files.specs.Reader.{plan_file, readings_part}
 use Rattle.answers.specs.Runs.{last_refusal, is_refusal}
 use Rattle.answers.specs.Lengths.{answer_length_lem}

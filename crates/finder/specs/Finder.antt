@@ -2,21 +2,21 @@
 use Rattle.std.specs.Prelude.{List, ◌++◌, ℕ, ◌/◌, eqb, leb, ℤ, length, drop}
 use Rattle.plan.specs.declared.Plan.{Plan}
 use Rattle.integers.specs.Pick.{pick}
-use Rattle.plan.specs.declared.Answer.{Answer}
-use Rattle.plan.specs.declared.Answer.TheVariants.{Done, Refused}
+use Rattle.plan.specs.Build.{Answer}
+use Rattle.plan.specs.Build.{Done, Refused}
 use Rattle.model.specs.Result.{Result, found, refused, Costs, cost_list, no_costs}
 use Rattle.search.specs.Search.{search_result, point_result, words_after}
 use Rattle.windows.specs.Windows.{window_result, window_words}
 use Rattle.neighbourhood.specs.Neighbourhood.{table_result, table_words_after}
 use Rattle.readings.specs.Codec.{readings_of, decode_number, decoded}
 use Rattle.fields.specs.Put.{outcome, written, written_number, written_bytes}
-use Rattle.fields.specs.declared.Written.{Written}
+use Rattle.fields.specs.Put.{Written}
 use Rattle.files.specs.Reader.{plan_file, readings_part}
 use Rattle.files.specs.Writer.{plan_written, after_writing}
 use Rattle.answers.specs.Reader.{read_number}
 use Rattle.answers.specs.Writer.{answer_bytes, refusal_bytes}
-use Rattle.answers.specs.declared.AnswerRead.{AnswerRead}
-use Rattle.answers.specs.declared.AnswerRead.TheVariants.{Runs, Refusal, Unread}
+use Rattle.answers.specs.Reader.{AnswerRead}
+use Rattle.answers.specs.Reader.{Runs, Refusal, Unread}
 use Rattle.finder.specs.declared.Outcome.{Outcome}
 use Rattle.finder.specs.declared.Reply.{Reply}
 

@@ -1,12 +1,11 @@
 -- What the parts of the exported calls do with the answers of the search. Assumes nothing.
-use Rattle.std.specs.Prelude.{List, ℕ, ◌*◌, ℤ, take}
-use Rattle.search.specs.declared.Found.{Found}
-use Rattle.search.specs.declared.Found.TheVariants.{Segmentation, Refused}
-use Rattle.search.specs.declared.Filled.{Filled}
-use Rattle.search.specs.declared.Filled.TheVariants as F
-use Rattle.search.specs.declared.Cost.{Cost}
-use Rattle.search.specs.declared.Cost.TheVariants.{Least, Refusal}
-use Rattle.fields.specs.declared.Written.{Written}
+use Rattle.plan.specs.declared.reasons.Refusal.{Refusal}
+use Rattle.plan.specs.Refusals.{refusal_number}
+use Rattle.std.specs.Prelude.{List, ℕ, ◌*◌, ℤ, take, Result, Ok, Err}
+use Rattle.search.specs.Told.{Found, Segmentation, Refused, Cost, Least, NoCost}
+use Rattle.search.specs.ToldCosts.{Filled}
+use Rattle.search.specs.ToldCosts as F
+use Rattle.fields.specs.Put.{Written}
 use Rattle.answers.specs.Writer.{answer_written, after_answer, refusal_written, after_refusal}
 use Rattle.finder.specs.declared.Outcome.{Outcome}
 use Rattle.finder.specs.Finder.{given, refused_with}
@@ -17,11 +16,16 @@ found_outcome (Refused n) = refused_with n
 
 abbrev pub cost_outcome : Cost → Outcome
 cost_outcome (Least c) = given 0 c 0
-cost_outcome (Refusal n) = refused_with n
+cost_outcome (NoCost n) = refused_with n
 
 abbrev pub filled_outcome : Filled → Outcome
 filled_outcome (F.Costs k) = given 0 0 k
 filled_outcome (F.Refused n) = refused_with n
+
+-- of what is counted: readings, costs or bytes
+abbrev pub counted_outcome : Result ℕ Refusal → Outcome
+counted_outcome (Ok n) = given 0 0 n
+counted_outcome (Err r) = refused_with (refusal_number r)
 
 -- how many run numbers an answer has in its list
 abbrev pub runs_in : Found → ℕ

@@ -8,12 +8,14 @@ ghost use Rattle.search.specs.Costs.{costs_after};
 ghost use Rattle.answers.specs.Reader.{read_answer, filled};
 ghost use Rattle.answers.specs.Writer.{answer_written, after_answer, refusal_written, after_refusal};
 ghost use Rattle.finder.specs.Finder.{given, refused_with, written_outcome, reply_of, search_outcome, point_outcome, search_file, point_file, file_words, costs_outcome, window_file, window_file_words, table_file, table_file_words, read_outcome, file_readings, rewritten, after_rewriting, file_result, segment_outcome, after_segment, program_bytes, at_front};
-ghost use Rattle.finder.specs.Parts.{found_outcome, cost_outcome, filled_outcome, runs_in, found_written, after_found};
+ghost use Rattle.plan.specs.Refusals.{refusal_number};
+ghost use Rattle.fields.specs.Put.{written_of};
+ghost use Rattle.search.specs.Told.{found_told, cost_told};
+ghost use Rattle.finder.specs.Parts.{counted_outcome, found_outcome, cost_outcome, runs_in, found_written, after_found};
 
-use answers::AnswerRead;
-use fields::Written;
-use plan::{Answer, Plan};
-use search::{Cost, Filled, Found};
+use answers::AnswerFile;
+use plan::{Plan, Refusal};
+use search::Segmentation;
 
 // What a call gives: its refusal, 0 where there is none; a cost; and how many runs, costs, readings or bytes it wrote.
 #[repr(C)]
@@ -34,67 +36,53 @@ pub struct Reply {
     pub count: usize,
 }
 
-fn refused(number: u8) -> Outcome
-    ensures { result ≡ refused_with number }
+fn refused(refusal: Refusal) -> Outcome
+    ensures { result ≡ refused_with (refusal_number refusal) }
 {
     Outcome {
-        refusal: number,
+        refusal: refusal.number(),
         cost: 0,
         count: 0,
     }
 }
 
-fn counted(n: usize) -> Outcome
-    ensures { result ≡ given 0 0 n }
+// How many readings, costs or bytes there are.
+fn counted(answer: Result<usize, Refusal>) -> Outcome
+    ensures { result ≡ counted_outcome answer }
 {
-    Outcome {
-        refusal: 0,
-        cost: 0,
-        count: n,
-    }
-}
-
-fn written(w: Written) -> Outcome
-    ensures { result ≡ written_outcome w }
-{
-    match w {
-        Written::Bytes(n) => counted(n),
-        Written::Refused(n) => refused(n),
-    }
-}
-
-fn found(f: Found) -> Outcome
-    ensures { result ≡ found_outcome f }
-{
-    match f {
-        Found::Segmentation { cost, runs } => Outcome {
+    match answer {
+        Ok(n) => Outcome {
             refusal: 0,
-            cost: cost,
+            cost: 0,
+            count: n,
+        },
+        Err(refusal) => refused(refusal),
+    }
+}
+
+fn found(answer: Result<Segmentation, Refusal>) -> Outcome
+    ensures { result ≡ found_outcome (found_told answer) }
+{
+    match answer {
+        Ok(Segmentation { cost, runs }) => Outcome {
+            refusal: 0,
+            cost,
             count: runs,
         },
-        Found::Refused(n) => refused(n),
+        Err(refusal) => refused(refusal),
     }
 }
 
-fn least(c: Cost) -> Outcome
-    ensures { result ≡ cost_outcome c }
+fn least(answer: Result<u64, Refusal>) -> Outcome
+    ensures { result ≡ cost_outcome (cost_told answer) }
 {
-    match c {
-        Cost::Least(n) => Outcome {
+    match answer {
+        Ok(n) => Outcome {
             refusal: 0,
             cost: n,
             count: 0,
         },
-        Cost::Refusal(n) => refused(n),
-    }
-}
-
-fn filled(f: Filled) -> Outcome
-    ensures { result ≡ filled_outcome f }
-{
-    match f {
-        Filled::Costs(n) => counted(n),
-        Filled::Refused(n) => refused(n),
+        Err(refusal) => refused(refusal),
     }
 }
 
@@ -109,13 +97,10 @@ pub fn yeldaski_search(
     ensures list { runs.new ≡ runs_after (search_file file.now readings.now (length workspace.old) (length runs.old)) runs.old }
     ensures words { workspace.new ≡ file_words file.now (search_file file.now readings.now (length workspace.old) (length runs.old)) workspace.old }
 {
-    let read = files::read_plan(file);
-    let answer = read.answer;
-    let Answer::Done = answer else {
-        return refused(files::answer_number(answer));
-    };
-    let plan = read.plan;
-    found(search::search(plan, readings, workspace, runs))
+    match files::read_plan(file) {
+        Ok(read) => found(search::search(read.plan, readings, workspace, runs)),
+        Err(refusal) => refused(refusal),
+    }
 }
 
 // The least cost of what ends after these readings in the named state at the named level.
@@ -129,13 +114,10 @@ pub fn yeldaski_point(
     ensures answer { result ≡ point_outcome (point_file file.now readings.now state level (length workspace.old)) }
     ensures words { workspace.new ≡ file_words file.now (point_file file.now readings.now state level (length workspace.old)) workspace.old }
 {
-    let read = files::read_plan(file);
-    let answer = read.answer;
-    let Answer::Done = answer else {
-        return refused(files::answer_number(answer));
-    };
-    let plan = read.plan;
-    least(search::point(plan, readings, state, level, workspace))
+    match files::read_plan(file) {
+        Ok(read) => least(search::point(read.plan, readings, state, level, workspace)),
+        Err(refusal) => refused(refusal),
+    }
 }
 
 // The least cost of each part of w readings of a long record, in the order of the start.
@@ -150,13 +132,10 @@ pub fn yeldaski_windows(
     ensures list { costs.new ≡ costs_after (window_file file.now «record».now w (length workspace.old) (length costs.old)) costs.old }
     ensures words { workspace.new ≡ window_file_words file.now (window_file file.now «record».now w (length workspace.old) (length costs.old)) workspace.old }
 {
-    let read = files::read_plan(file);
-    let answer = read.answer;
-    let Answer::Done = answer else {
-        return refused(files::answer_number(answer));
-    };
-    let plan = read.plan;
-    filled(windows::least_costs(plan, record, w, workspace, costs))
+    match files::read_plan(file) {
+        Ok(read) => counted(windows::least_costs(read.plan, record, w, workspace, costs)),
+        Err(refusal) => refused(refusal),
+    }
 }
 
 // The least cost for each number of changes from 0 to `most`, in this order.
@@ -171,13 +150,10 @@ pub fn yeldaski_table(
     ensures list { costs.new ≡ costs_after (table_file file.now readings.now most (length workspace.old) (length costs.old)) costs.old }
     ensures words { workspace.new ≡ table_file_words file.now most (table_file file.now readings.now most (length workspace.old) (length costs.old)) workspace.old }
 {
-    let read = files::read_plan(file);
-    let answer = read.answer;
-    let Answer::Done = answer else {
-        return refused(files::answer_number(answer));
-    };
-    let plan = read.plan;
-    filled(neighbourhood::by_changes(plan, readings, most, workspace, costs))
+    match files::read_plan(file) {
+        Ok(read) => counted(neighbourhood::by_changes(read.plan, readings, most, workspace, costs)),
+        Err(refusal) => refused(refusal),
+    }
 }
 
 // The readings of a plan file, decoded to the front of a list.
@@ -185,17 +161,15 @@ pub fn yeldaski_read_plan(file: &[u8], readings: &mut [i16]) -> Outcome
     ensures answer { result ≡ read_outcome file.now (length readings.old) }
     ensures list { readings.new ≡ file_readings file.now readings.old }
 {
-    let read = files::read_plan(file);
-    let answer = read.answer;
-    let Answer::Done = answer else {
-        return refused(files::answer_number(answer));
+    let read = match files::read_plan(file) {
+        Ok(read) => read,
+        Err(refusal) => return refused(refusal),
     };
     let body = files::readings_part(file, read);
-    let wrong = readings::decode(body, readings);
-    if wrong != 0 {
-        return refused(wrong);
+    match readings::decode(body, readings) {
+        Ok(()) => counted(Ok(body.len() / 2)),
+        Err(refusal) => refused(refusal),
     }
-    counted(body.len() / 2)
 }
 
 // The plan of a file with other readings, written as a file.
@@ -203,13 +177,10 @@ pub fn yeldaski_write_plan(file: &[u8], readings: &[i16], out: &mut [u8]) -> Out
     ensures answer { result ≡ rewritten file.now (length readings.now) (length out.old) }
     ensures list { out.new ≡ after_rewriting file.now readings.now out.old }
 {
-    let read = files::read_plan(file);
-    let answer = read.answer;
-    let Answer::Done = answer else {
-        return refused(files::answer_number(answer));
-    };
-    let plan = read.plan;
-    written(files::write_plan(plan, readings, out))
+    match files::read_plan(file) {
+        Ok(read) => counted(files::write_plan(read.plan, readings, out)),
+        Err(refusal) => refused(refusal),
+    }
 }
 
 // The cost and the runs of an answer file, or the refusal that it holds.
@@ -217,22 +188,21 @@ pub fn yeldaski_read_answer(file: &[u8], runs: &mut [i32]) -> Reply
     ensures answer { result ≡ reply_of (read_answer file.now (length runs.old)) }
     ensures list { runs.new ≡ filled file.now runs.old }
 {
-    let a = answers::read_answer(file, runs);
-    match a {
-        AnswerRead::Runs { cost, count } => Reply {
+    match answers::read_answer(file, runs) {
+        Ok(AnswerFile::Runs { cost, count }) => Reply {
             refusal: 0,
             held: 0,
-            cost: cost,
-            count: count,
+            cost,
+            count,
         },
-        AnswerRead::Refusal(n) => Reply {
+        Ok(AnswerFile::Refusal(refusal)) => Reply {
             refusal: 0,
-            held: n,
+            held: refusal.number(),
             cost: 0,
             count: 0,
         },
-        AnswerRead::Unread(n) => Reply {
-            refusal: n,
+        Err(unread) => Reply {
+            refusal: unread.number(),
             held: 0,
             cost: 0,
             count: 0,
@@ -245,7 +215,7 @@ pub fn yeldaski_write_answer(cost: u64, runs: &[i32], out: &mut [u8]) -> Outcome
     ensures answer { result ≡ written_outcome (answer_written runs.now (length out.old)) }
     ensures list { out.new ≡ after_answer cost runs.now out.old }
 {
-    written(answers::write_answer(cost, runs, out))
+    counted(answers::write_answer(cost, runs, out))
 }
 
 // A refusal, written as an answer file.
@@ -253,7 +223,7 @@ pub fn yeldaski_write_refusal(number: u8, out: &mut [u8]) -> Outcome
     ensures answer { result ≡ written_outcome (refusal_written number (length out.old)) }
     ensures list { out.new ≡ after_refusal number out.old }
 {
-    written(answers::write_refusal(number, out))
+    counted(answers::write_refusal(number, out))
 }
 
 // A level is a number of 16 bits. Proofs learn that of a plan where its grid is read, and an answer file needs it of every run.
@@ -264,17 +234,21 @@ fn read_grid(plan: Plan)
 }
 
 // What a search gave, its runs at the front of a list, written as an answer file.
-fn write_found(f: Found, runs: &[i32], out: &mut [u8]) -> Written
-    requires { runs_in f ≤ length runs.now }
-    ensures answer { result ≡ found_written f runs.now (length out.old) }
-    ensures list { out.new ≡ after_found f runs.now out.old }
+fn write_found(
+    answer: Result<Segmentation, Refusal>,
+    runs: &[i32],
+    out: &mut [u8],
+) -> Result<usize, Refusal>
+    requires { runs_in (found_told answer) ≤ length runs.now }
+    ensures answer { written_of result ≡ found_written (found_told answer) runs.now (length out.old) }
+    ensures list { out.new ≡ after_found (found_told answer) runs.now out.old }
 {
-    match f {
-        Found::Segmentation { cost, runs: count } => {
+    match answer {
+        Ok(Segmentation { cost, runs: count }) => {
             let numbers = 5 * count;
             answers::write_answer(cost, &runs[..numbers], out)
         }
-        Found::Refused(n) => answers::write_refusal(n, out),
+        Err(refusal) => answers::write_refusal(refusal.number(), out),
     }
 }
 
@@ -292,21 +266,19 @@ pub fn yeldaski_segment(
     ensures list { runs.new ≡ runs_after (file_result file.now (length readings.old) (length workspace.old) (length runs.old)) runs.old }
     ensures words { workspace.new ≡ file_words file.now (file_result file.now (length readings.old) (length workspace.old) (length runs.old)) workspace.old }
 {
-    let read = files::read_plan(file);
-    let answer = read.answer;
-    let Answer::Done = answer else {
-        return yeldaski_write_refusal(files::answer_number(answer), out);
+    let read = match files::read_plan(file) {
+        Ok(read) => read,
+        Err(refusal) => return yeldaski_write_refusal(refusal.number(), out),
     };
     let body = files::readings_part(file, read);
-    let wrong = readings::decode(body, readings);
-    if wrong != 0 {
-        return yeldaski_write_refusal(wrong, out);
+    if let Err(refusal) = readings::decode(body, readings) {
+        return yeldaski_write_refusal(refusal.number(), out);
     }
     let n = body.len() / 2;
     let plan = read.plan;
     read_grid(plan);
-    let f = search::search(plan, &readings[..n], workspace, runs);
-    written(write_found(f, runs, out))
+    let answer = search::search(plan, &readings[..n], workspace, runs);
+    counted(write_found(answer, runs, out))
 }
 
 // The answer file of a plan file with what the program `segment` lends; how many bytes it has. The lent bytes are enough for every answer.

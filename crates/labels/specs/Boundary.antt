@@ -1,5 +1,5 @@
 -- What code knows of a boundary: the label that has it, if any. Assumes nothing.
-use Rattle.std.specs.Prelude.{◌≡◌, refl, Bool, true, ◌&&◌, ℕ, ◌<◌, eqb}
+use Rattle.std.specs.Prelude.{◌≡◌, refl, Bool, true, ◌&&◌, ℕ, ◌<◌, eqb, Option as Maybe, Some, None}
 use Rattle.std.proofs.Math.Option.{Option, none, some}
 use Rattle.plan.specs.declared.Plan.{Plan}
 use Rattle.plan.specs.declared.Label.{Label}
@@ -8,12 +8,11 @@ use Rattle.model.specs.Model.{edge_at}
 use Rattle.model.specs.Labels.{label_on, count_after, count_before, label_test, used}
 use Rattle.model.proofs.Labels.{led_used}
 use Rattle.model.specs.Held.{from_count, leads_at}
-use Rattle.labels.specs.declared.Cover.{Cover}
-use Rattle.labels.specs.declared.Cover.TheVariants.{Free, By}
 
-abbrev pub label_of : Cover → Option Label
-label_of Free = none
-label_of (By l) = some l
+-- the label, in the model's own option
+abbrev pub label_of : Maybe Label → Option Label
+label_of None = none
+label_of (Some l) = some l
 
 -- the edge e may lead at boundary t, under the label o, to state s with count k
 unfoldable pub leads_from : Option Label → ℕ → Edge → ℕ → ℕ → Bool

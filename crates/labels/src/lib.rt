@@ -12,13 +12,6 @@ ghost use Rattle.labels.specs.Boundary.{label_of, leads_from};
 
 use plan::{Edge, Kind, Label, Plan};
 
-// The label that has a boundary.
-#[derive(Clone, Copy)]
-pub enum Cover {
-    Free,
-    By(Label),
-}
-
 // Up to this c a label asks for c changes, above it for one change of a kind.
 const MOST_CHANGES: u8 = 7;
 
@@ -29,19 +22,18 @@ const ONE_UP: u8 = 8;
 pub const COUNTS: usize = MOST_CHANGES as usize + 1;
 
 // 1 for a change, 0 for a stay.
+#[tactic(auto, unfolding(model::specs::Model::change_of))]
 pub fn change_of(k: Kind) -> usize
     ensures { result ≡ change_of k }
 {
     match k {
         Kind::Stay => 0,
-        Kind::Any => 1,
-        Kind::Up(_) => 1,
-        Kind::Down(_) => 1,
-        Kind::Abs(_) => 1,
+        _ => 1,
     }
 }
 
 // 1 for a change of the kind that the label asks for.
+#[tactic(auto, unfolding(model::specs::Model::asked_of, model::specs::Model::up_of, model::specs::Model::down_of, model::specs::Model::change_of))]
 fn asked_of(l: Label, x: Kind) -> usize
     ensures { result ≡ asked_of l x }
 {
@@ -49,16 +41,15 @@ fn asked_of(l: Label, x: Kind) -> usize
         return change_of(x);
     }
     match x {
-        Kind::Stay => 0,
-        Kind::Any => 0,
-        Kind::Up(_) => { if l.c == ONE_UP { 1 } else { 0 } }
-        Kind::Down(_) => { if l.c == ONE_UP { 0 } else { 1 } }
-        Kind::Abs(_) => 0,
+        Kind::Up(_) => usize::from(l.c == ONE_UP),
+        Kind::Down(_) => usize::from(l.c != ONE_UP),
+        _ => 0,
     }
 }
 
 // What an edge of this kind adds to the count inside the label: a change of another kind than the label asks for counts as two, more than
 // such a label allows.
+#[tactic(auto, using(model::proofs::Held::change_low), unfolding(model::specs::Marks::mark_of))]
 fn mark_of(l: Label, x: Kind) -> usize
     ensures { (result ≡ mark_of l x) × (result ≤ 2) }
 {
@@ -67,6 +58,7 @@ fn mark_of(l: Label, x: Kind) -> usize
 }
 
 // The count that the label asks for.
+#[tactic(auto, unfolding(model::specs::Model::need))]
 fn need_of(l: Label) -> usize
     ensures { (result ≡ need l) × (result < counts) }
 {
@@ -74,47 +66,45 @@ fn need_of(l: Label) -> usize
 }
 
 // Boundaries p to q - 1 have t.
+#[tactic(auto, unfolding(model::specs::Model::within))]
 fn is_within(l: Label, t: usize) -> bool
     ensures { result ≡ within l.p l.q t }
 {
-    if (l.p as usize) <= t {
-        t < (l.q as usize)
-    } else {
-        false
-    }
+    l.p as usize <= t && t < l.q as usize
 }
 
 // The label that has boundary t, looked up in the plan's list of numbers. Labels stand in order, so going down from the last one the first that starts
 // at t or before decides: those below it end before it starts.
-pub fn label_on(plan: Plan, code: &[u64], t: usize) -> Cover
+#[tactic(auto, unfolding(model::specs::Labels::label_on))]
+pub fn label_on(plan: Plan, code: &[u64], t: usize) -> Option<Label>
     requires { Checked plan × Coded plan code.now }
     ensures { label_of result ≡ label_on plan t }
 {
-    let mut i = coded::label_count(code);
-    while 0 < i {
-        i -= 1;
+    for i in (0..coded::label_count(code)).rev() {
         let l = coded::label_in(code, i);
         if is_within(l, t) {
-            return Cover::By(l);
+            return Some(l);
         }
-        if (l.p as usize) <= t {
-            return Cover::Free;
+        if l.p as usize <= t {
+            return None;
         }
     }
-    Cover::Free
+    None
 }
 
 // How many counts are kept apart where this label has the next boundary.
-fn used(on: Cover) -> usize
+#[tactic(auto, unfolding(model::specs::Labels::used))]
+fn used(on: Option<Label>) -> usize
     ensures { result ≡ used (label_of on) }
 {
     match on {
-        Cover::Free => 1,
-        Cover::By(l) => need_of(l) + 1,
+        None => 1,
+        Some(l) => need_of(l) + 1,
     }
 }
 
 // How many counts are kept apart after t readings.
+#[tactic(auto, using(crate::proofs::Boundary::used_here))]
 pub fn counts_at(plan: Plan, code: &[u64], t: usize) -> usize
     requires { Checked plan × Coded plan code.now }
     ensures { (result ≡ used_at plan t) × (result ≤ counts) }
@@ -122,57 +112,50 @@ pub fn counts_at(plan: Plan, code: &[u64], t: usize) -> usize
     used(label_on(plan, code, t))
 }
 
-// a less b, 0 where b is more.
-fn monus(a: usize, b: usize) -> usize
-    ensures { result ≡ a - b }
-{
-    if a < b { 0 } else { a - b }
-}
-
 // Boundary t is the last that the label has.
 fn closes(l: Label, t: usize) -> bool
     requires { t < 65536 }
     ensures { result ≡ eqb (suc t) l.q }
 {
-    t + 1 == (l.q as usize)
+    t + 1 == l.q as usize
 }
 
 // The count before boundary t, from the count k after it.
-pub fn count_before(on: Cover, t: usize, x: Kind, k: usize) -> usize
+#[tactic(auto, unfolding(model::specs::Labels::count_before))]
+pub fn count_before(on: Option<Label>, t: usize, x: Kind, k: usize) -> usize
     requires { (t < 65536) × (k < 65536) }
     ensures { (result ≡ count_before (label_of on) t x k) × (result < 65536) }
 {
     match on {
-        Cover::Free => 0,
-        Cover::By(l) => {
-            if closes(l, t) {
-                monus(need_of(l), mark_of(l, x))
-            } else {
-                monus(k, mark_of(l, x))
-            }
+        None => 0,
+        Some(l) => {
+            let after = if closes(l, t) { need_of(l) } else { k };
+            after.saturating_sub(mark_of(l, x))
         }
     }
 }
 
 // The count after boundary t, from the count k before it.
-fn count_after(on: Cover, t: usize, x: Kind, k: usize) -> usize
+#[tactic(auto, unfolding(model::specs::Labels::count_after))]
+fn count_after(on: Option<Label>, t: usize, x: Kind, k: usize) -> usize
     requires { (t < 65536) × (k < 65536) }
     ensures { result ≡ count_after (label_of on) t x k }
 {
     match on {
-        Cover::Free => 0,
-        Cover::By(l) => { if closes(l, t) { 0 } else { k + mark_of(l, x) } }
+        None => 0,
+        Some(l) => { if closes(l, t) { 0 } else { k + mark_of(l, x) } }
     }
 }
 
 // The label's rule is kept at boundary t, with the count k before it.
-fn label_test(on: Cover, t: usize, x: Kind, k: usize) -> bool
+#[tactic(auto, unfolding(model::specs::Labels::label_test))]
+fn label_test(on: Option<Label>, t: usize, x: Kind, k: usize) -> bool
     requires { (t < 65536) × (k < 65536) }
     ensures { result ≡ label_test (label_of on) t x k }
 {
     match on {
-        Cover::Free => k == 0,
-        Cover::By(l) => {
+        None => k == 0,
+        Some(l) => {
             let after = k + mark_of(l, x);
             if closes(l, t) {
                 after == need_of(l)
@@ -184,18 +167,15 @@ fn label_test(on: Cover, t: usize, x: Kind, k: usize) -> bool
 }
 
 // The edge may lead at boundary t to state s with count k.
-pub fn leads(on: Cover, t: usize, e: Edge, k: usize, s: usize) -> bool
+#[tactic(auto, unfolding(crate::specs::Boundary::leads_from))]
+pub fn leads(on: Option<Label>, t: usize, e: Edge, k: usize, s: usize) -> bool
     requires { (t < 65536) × (k < 65536) }
     ensures { result ≡ leads_from (label_of on) t e k s }
 {
-    if s != (e.to as usize) {
+    if s != e.to as usize {
         return false;
     }
     let x = e.kind;
     let before = count_before(on, t, x, k);
-    if label_test(on, t, x, before) {
-        k == count_after(on, t, x, before)
-    } else {
-        false
-    }
+    label_test(on, t, x, before) && k == count_after(on, t, x, before)
 }

@@ -3,7 +3,7 @@ use mathlib.Core.Path.{◌≡◌, refl, sym, ◌∙◌, ap, subst}
 use mathlib.Core.List.{List}
 use mathlib.Core.Option.{Option}
 use mathlib.Core.Logic.{inl}
-use mathlib.Core.Bool.{Bool, true}
+use mathlib.Core.Bool.{true}
 use Prim.Native.Nat.{ℕ, zero, suc, ◌+◌, ◌-◌, ◌≤◌, ◌<◌, min}
 use native.Mathlib.Omega.{arith}
 use native.Mathlib.Numerals.{add-one}
@@ -99,10 +99,6 @@ module _ (o : Option Label) (t : ℕ) (es : List Edge) (k s cur moved : ℕ) (g 
           (w.curve A B C D _ (T (change_of (edge_of es i).kind)) l d b (m.curve A B C D F T l d b c (λ e he. f e (omega arith))) (λ e. source_kept i h e (f i (omega arith) e)));
     }
 
--- the count as code reads it
-pub ready_counted : {o : Option Label} {t : ℕ} {es : List Edge} {m n k s cur moved : ℕ} {g : Shape} {ws : List ℕ} {first second work : ℕ} → m ≡ n → EdgesReady o t es n k s cur moved g first second work ws → EdgesReady o t es m k s cur moved g first second work ws
-ready_counted {o} {t} {es} {m} {n} {k} {s} {cur} {moved} {g} {ws} {first} {second} {work} e a = subst (λ (x : ℕ). EdgesReady o t es x k s cur moved g first second work ws) (sym e) a
-
 pub took_all : {o : Option Label} {t : ℕ} {es : List Edge} {i n k s cur moved : ℕ} {g : Shape} {ws ws' : List ℕ} {first second work r : ℕ} → i ≡ n → TookEdges o t es i k s cur moved g ws ws' first second work r → TookEdges o t es n k s cur moved g ws ws' first second work r
 took_all {o} {t} {es} {i} {n} {k} {s} {cur} {moved} {g} {ws} {ws'} {first} {second} {work} {r} e m = subst (λ (x : ℕ). TookEdges o t es x k s cur moved g ws ws' first second work r) e m
 
@@ -120,6 +116,3 @@ pub took_as : {o : Option Label} {t k s from : ℕ} (cur moved : ℕ) {g : Shape
     → TookOne o t x k s from g ws ws' acc next work r → TookOne o t y k s (from_place (change_of y.kind) cur moved) g ws ws' acc next work r
 took_as {o} {t} {k} {s} {from} cur moved {g} {ws} {ws'} {acc} {next} {work} {r} {x} {y} e f m =
     subst (λ (z : ℕ). TookOne o t y k s z g ws ws' acc next work r) (sym (same_place cur moved e f)) (subst (λ (z : Edge). TookOne o t z k s from g ws ws' acc next work r) e m)
-
-pub leads_as : (o : Option Label) (t k s : ℕ) {x y : Edge} {b : Bool} → x ≡ y → b ≡ leads_from o t x k s → b ≡ true → leads_from o t y k s ≡ true
-leads_as o t k s e h b = ap (λ (x : Edge). leads_from o t x k s) (sym e) ∙ sym h ∙ b

@@ -47,9 +47,6 @@ kept_list e f c = curve_same e c (record { word = λ i h g. f i h (omega (arith,
 -- ---- lists
 
 module _ (P : Plan) (t : ℕ) (H : Table) (o free : ℕ) where
-  pub no_lists : (Q : ℕ → ℕ → Type 0) → ((k s : ℕ) → Q k s → ⊥) → (ws : List ℕ) → Lists Q P t H o free ws ws
-  no_lists Q n ws = record { size = refl; word = λ i f g. refl; list = λ k s q. absurd (n k s q) }
-
   pub one_list : {k s : ℕ} {ws ws' : List ℕ} (t' : ℕ) → t ≡ suc t' → NextList P t' H (list_at o P.states (width P) k s) free k s ws ws' → Lists (One k s) P t H o free ws ws'
   one_list {k} {s} {ws} {ws'} t' e m = record {
     size = m.beside.size;
@@ -165,9 +162,6 @@ module _ {P : Plan} {zs : List ℤ} {o free : ℕ} {g : Shape} {ws : List ℕ} (
   first_list_ready {k} {s} hk hs dst d =
       let b = list_within o P.states (width P) k s hk hs in
       record { task = a.task; more = a.more; state = hs; under = omega (arith, a.under); room = a.room }
-
-pub count_all : {P : Plan} {t : ℕ} {H : Table} {o free k n m : ℕ} {ws ws' : List ℕ} → n ≡ m → Lists (OfCount k n) P t H o free ws ws' → Lists (OfCount k m) P t H o free ws ws'
-count_all {P} {t} {H} {o} {free} {k} {n} {m} {ws} {ws'} e l = subst (λ (x : ℕ). Lists (OfCount k x) P t H o free ws ws') e l
 
 -- a list made at the place that code computed
 pub made_at : {P : Plan} {t : ℕ} {H : Table} {dst dst' free k s : ℕ} {ws ws' : List ℕ} → dst ≡ dst' → NextList P t H dst free k s ws ws' → NextList P t H dst' free k s ws ws'

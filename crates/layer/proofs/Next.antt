@@ -5,7 +5,6 @@ use mathlib.Core.Option.{Option}
 use mathlib.Core.Logic.{◌⊎◌, inl, inr, ⊎_elim}
 use mathlib.Core.Bool.{Bool, true, false, ◌&&◌, cond}
 use lib.Dec.{eqb, ltb, T}
-use borrow.Author.Tests.{eq-eqb, ne_eqb}
 use Prim.Native.Nat.{ℕ, zero, suc, ◌+◌, ◌-◌, ◌*◌, ◌^◌, ◌≤◌, ◌<◌, min}
 use native.Mathlib.Omega.{arith}
 use native.Mathlib.Nat.{mul-le-mul_right}
@@ -272,23 +271,6 @@ module _ {P : Plan} {zs : List ℤ} {o : Option Label} {t cur moved dst free k s
         next_list T m = record { beside = besides; list = next_curve T m }
 
 -- ---- the first layer
-
-module _ (P : Plan) (k s : ℕ) where
-  pub first_not : (k ≡ 0 → ⊥) → none ≡ first_cost P k s
-  unfolding first_cost
-  first_not h = rw (ne_eqb k 0 h) (go (in_set P.start s))
-    where
-      go : (b : Bool) → none ≡ cond (b && false) 0 none
-      go true = refl
-      go false = refl
-
-  pub first_in_lem : in_set P.start s ≡ true → k ≡ 0 → 0 ≡ first_cost P k s
-  unfolding first_cost
-  first_in_lem e h = rw (eq-eqb k 0 h, e) refl
-
-  pub first_out : in_set P.start s ≡ false → k ≡ 0 → none ≡ first_cost P k s
-  unfolding first_cost
-  first_out e h = rw (eq-eqb k 0 h, e) refl
 
 module _ {P : Plan} {zs : List ℤ} {dst free k s : ℕ} {g : Shape} {ws : List ℕ} (a : FirstReady P zs dst free k s g ws) (c : ℕ) (is : c ≡ first_cost P k s) {w1 : List ℕ} (m1 : Made (λ (j : ℕ). flat c 0) ws w1 free g.levels) where
   acc_first : Curve 0 1 g.base g.levels w1 free (λ (j : ℕ). lex c 0)

@@ -4,13 +4,12 @@ use mathlib.Core.List.{List}
 use mathlib.Core.Option.{Option}
 use mathlib.Core.Logic.{inl}
 use mathlib.Core.Bool.{true, false}
-use Prim.Native.Nat.{ℕ, suc, ◌+◌, ◌*◌, ◌≤◌, ◌<◌, min}
+use Prim.Native.Nat.{ℕ, min}
 use native.Mathlib.Omega.{arith}
-use native.Mathlib.Nat.{mul-le-mul, mul-le-mul_left}
 use Rattle.plan.specs.declared.Edge.{Edge}
 use Rattle.plan.specs.declared.Label.{Label}
 use Rattle.model.specs.Model.{penalty, change_of}
-use Rattle.model.specs.Labels.{count_before, counts}
+use Rattle.model.specs.Labels.{count_before}
 use Rattle.model.specs.Index.{edge_min}
 use Rattle.model.proofs.Held.{penalty_most_lem, change_low}
 use Rattle.labels.specs.Boundary.{leads_from}
@@ -40,16 +39,6 @@ module _ (o : Option Label) (t : ℕ) (x : Edge) (k s cur : ℕ) (g : Shape) whe
         (m.curve A B C D F (H (count_before o t x.kind k) x.from) l (omega (arith, change_low x.kind)) (omega (arith, ep, penalty_most_lem x.class)) c
         (subst (λ (p : ℕ). Curve D C g.base g.levels ws p (H (count_before o t x.kind k) x.from)) (sym ef) (d e)));
   }
-
--- a list's place is small
-pub count_low : (S k s : ℕ) → S ≤ 8 → k < counts → s < 8 → k * S + s ≤ 8 * counts
-count_low S k s h_s hk hs = let a : suc k * S ≤ counts * 8 = mul-le-mul hk h_s in let b : k * S ≤ k * 8 = mul-le-mul_left k h_s in omega arith
-
-pub list_low : (S L k s : ℕ) → S ≤ 8 → L ≤ 1024 → k < counts → s < 8 → (k * S + s) * (4 * L) ≤ 8 * counts * 4096
-list_low S L k s h_s hL hk hs =
-    let h : 4 * L ≤ 4096 = omega arith in
-    let b : (k * S + s) * (4 * L) ≤ 8 * counts * 4096 = mul-le-mul (count_low S k s h_s hk hs) h in
-    omega arith
 
 -- the code's places are the definition's
 pub source_is : (o : Option Label) (t : ℕ) (x : Edge) (k cur : ℕ) (g : Shape) (c f : ℕ) → c ≡ count_before o t x.kind k → f ≡ list_at cur g.states g.levels c x.from → f ≡ source o t x k cur g

@@ -15,8 +15,8 @@ use Rattle.model.specs.Neighbourhood.{table_of}
 use Rattle.layer.specs.declared.Shape.{Shape}
 use Rattle.layer.specs.Layer.{ShapeOf}
 use Rattle.saved.specs.Walk.{limit_cell}
-use Rattle.search.specs.declared.Filled.{Filled}
-use Rattle.search.specs.declared.Filled.TheVariants.{Refused}
+use Rattle.search.specs.ToldCosts.{Filled}
+use Rattle.search.specs.ToldCosts.{Refused}
 use Rattle.search.specs.Search.{work_words}
 use Rattle.search.specs.Costs.{filled_of, costs_after}
 use Rattle.search.proofs.Solves.{need_is, task_of}

@@ -36,7 +36,7 @@ use Rattle.saved.proofs.Chains.{inside_refl, inside_wider}
 use Rattle.back.specs.Read.{Readable, Reads, end_of, EndTo, layer_reads, layer_readable, readable_fewer, reads_fewer}
 use Rattle.back.specs.declared.End.{End}
 use Rattle.search.specs.declared.Ended.{Ended}
-use Rattle.search.specs.declared.Filled.TheVariants as F
+use Rattle.search.specs.ToldCosts as F
 use Rattle.search.specs.Cheapest.{Reaches}
 use Rattle.search.specs.Costs.{filled_of, costs_after, costs_looked}
 use Rattle.neighbourhood.specs.Slots.{place_of, slot_of, table_limit, Ground, Slots}

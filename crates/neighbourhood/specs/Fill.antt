@@ -5,7 +5,7 @@ use Rattle.model.specs.Result.{cost_list, no_costs}
 use Rattle.model.specs.Neighbourhood.{entries, table_of}
 use Rattle.layer.specs.declared.Shape.{Shape}
 use Rattle.saved.specs.Packed.{Inside}
-use Rattle.search.specs.declared.Filled.{Filled}
+use Rattle.search.specs.ToldCosts.{Filled}
 use Rattle.search.specs.Costs.{FilledBy}
 use Rattle.neighbourhood.specs.Slots.{table_limit, Ground}
 

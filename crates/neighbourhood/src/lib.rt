@@ -16,14 +16,14 @@ ghost use Rattle.model.specs.Neighbourhood.{entry_of, entries, table_of};
 ghost use Rattle.coded.specs.Coded.{Coded};
 ghost use Rattle.layer.specs.Layer.{Shape-small, ShapeOf, place_most, layer_cell};
 ghost use Rattle.back.specs.Read.{Readable, Reads};
+ghost use Rattle.search.specs.ToldCosts.{filled_told};
 ghost use Rattle.search.specs.Costs.{filled_of, costs_after};
 ghost use Rattle.neighbourhood.specs.Neighbourhood.{table_result, table_words_after};
 ghost use Rattle.neighbourhood.specs.Slots.{slots_most, slot_of, Emptied, Slots, Ground, Banks, StepTo, ForwardTo};
 ghost use Rattle.neighbourhood.specs.Fill.{Put, Decided, Fillable, FilledTo};
 
 use layer::{Origin, Shape};
-use plan::Plan;
-use search::Filled;
+use plan::{Plan, Refusal};
 
 // How many entries a table has at most: one for each number of changes from 0 on.
 const ENTRIES: usize = Plan::MAX_CHANGES + 1;
@@ -44,22 +44,16 @@ fn slots_at(most: usize, t: usize) -> usize
     requires { most ≤ 32 }
     ensures { result ≡ min (suc most) t }
 {
-    let all = most + 1;
-    if t < all { t } else { all }
+    t.min(most + 1)
 }
 
 // Where slot i of the bank after b layers stands after t readings, counted in layers: that of slot 0 while it has nothing.
+#[tactic(auto, unfolding(crate::specs::Slots::slot_of))]
 fn slot_of(b: usize, i: usize, t: usize) -> usize
     requires { (b ≤ 33) × (i ≤ 33) }
     ensures { result ≡ slot_of b i t }
 {
-    if i == 0 {
-        return 0;
-    }
-    if t < i {
-        return 0;
-    }
-    b + i
+    if i == 0 || t < i { 0 } else { b + i }
 }
 
 // Slot 0: a layer in which nothing is reached.
@@ -70,10 +64,8 @@ fn put_nothing(ws: &mut [u64], g: Shape)
     let levels = g.levels;
     let size = 4 * (levels as usize);
     let n = labels::COUNTS * g.states;
-    let mut q = 0;
-    while q < n {
+    for q in 0..n {
         curve::constant(ws, q * size, levels, quadratic::NONE, 0);
-        q += 1;
     }
 }
 
@@ -95,12 +87,10 @@ fn step_slots(
 {
     let free = place_of(g, 2 * most + 3);
     let last = slots_at(most, t + 1);
-    let mut i = 0;
-    while i < last {
+    for i in 0..last {
         let changes = place_of(g, slot_of(from, i, t));
-        i += 1;
-        let stays = place_of(g, slot_of(from, i, t));
-        let next = place_of(g, to + i);
+        let stays = place_of(g, slot_of(from, i + 1, t));
+        let next = place_of(g, to + (i + 1));
         let origin = Origin { stays, changes };
         layer::next_layer(ws, plan, code, readings, t, origin, next, free, g);
     }
@@ -126,13 +116,9 @@ fn forward(
     let n = readings.len();
     let mut from = 0;
     let mut to = most + 1;
-    let mut t = 1;
-    while t < n {
+    for t in 1..n {
         step_slots(ws, plan, code, readings, t, most, from, to, g);
-        let last = from;
-        from = to;
-        to = last;
-        t += 1;
+        (from, to) = (to, from);
     }
     from
 }
@@ -165,15 +151,13 @@ fn put_entries(
 {
     let n = readings.len();
     let mut some = false;
-    let mut k = 0;
-    while k <= most {
+    for k in 0..most + 1 {
         let o = place_of(g, slot_of(bank, k + 1, n));
         let cost = entry(ws, plan, o, g);
         list[k] = cost;
         if cost != NO_COST {
             some = true;
         }
-        k += 1;
     }
     some
 }
@@ -206,11 +190,7 @@ fn copy_front(list: &[u64], n: usize, out: &mut [u64])
     requires { (n ≤ length list.now) × (n ≤ length out.old) }
     ensures { out.new ≡ take n list.now ++ drop n out.old }
 {
-    let mut i = 0;
-    while i < n {
-        out[i] = list[i];
-        i += 1;
-    }
+    out[..n].copy_from_slice(&list[..n]);
 }
 
 // The table over a workspace and a list that are long enough. Nothing is written to the list before it is known that the answer is not 16.
@@ -221,9 +201,9 @@ fn fill(
     most: usize,
     g: Shape,
     costs: &mut [u64],
-) -> Filled
+) -> Result<usize, Refusal>
     requires { Fillable plan readings.now most g ws.old costs.old }
-    ensures { FilledTo plan readings.now most result ws.old ws.new costs.old costs.new }
+    ensures { FilledTo plan readings.now most (filled_told result) ws.old ws.new costs.old costs.new }
 {
     let mut code = [0u64; coded::SIZE];
     let mut list = [0u64; ENTRIES];
@@ -231,10 +211,10 @@ fn fill(
     let bank = forward(ws, plan, &code, readings, most, g);
     let some = put_entries(ws, plan, readings, most, bank, g, &mut list);
     if none_allowed(ws, plan, &code, readings, most, g, some) {
-        return Filled::Refused(16);
+        return Err(Refusal::NoSegmentation);
     }
     copy_front(&list, most + 1, costs);
-    Filled::Costs(most + 1)
+    Ok(most + 1)
 }
 
 // The least cost for each number of changes from 0 to `most`, which is K, in this order; the largest number where there is none.
@@ -244,23 +224,20 @@ pub fn by_changes(
     most: usize,
     workspace: &mut [u64],
     costs: &mut [u64],
-) -> Filled
-    ensures answer { result ≡ filled_of (table_result plan readings.now most (length workspace.old) (length costs.old)) }
+) -> Result<usize, Refusal>
+    ensures answer { filled_told result ≡ filled_of (table_result plan readings.now most (length workspace.old) (length costs.old)) }
     ensures list { costs.new ≡ costs_after (table_result plan readings.now most (length workspace.old) (length costs.old)) costs.old }
     ensures words { workspace.new ≡ table_words_after plan most (table_result plan readings.now most (length workspace.old) (length costs.old)) workspace.old }
 {
     let n = readings.len();
-    let wrong = refusals::table_number(plan, n, most);
-    if wrong != 0 {
-        return Filled::Refused(wrong);
-    }
+    refusals::check_table(plan, n, most)?;
     let g = search::shape_of(plan);
     let need = search::work_words(g) * (most + 1);
     if workspace.len() < need {
-        return Filled::Refused(14);
+        return Err(Refusal::WorkspaceTooShort);
     }
     if costs.len() < most + 1 {
-        return Filled::Refused(15);
+        return Err(Refusal::ListTooShort);
     }
     search::read_all(readings);
     let filled = fill(workspace, plan, readings, most, g, costs);

@@ -18,6 +18,9 @@ use native.Mathlib.Omega.{arith}
 pub passed : {A B : Type 0} (r : Result A Refusal) (q : Result B Refusal) (x : Refusal) → q ≡ Err x → IsErrAnd r (λ (y : Refusal). y ≡ x) → number_of r ≡ number_of q
 passed r q x e h = let p = err_from_is_err_and r h in rw (p.1, p.2, e)
 
+pub passed_as : {A : Type 0} (r : Result A Refusal) (x : Refusal) → IsErrAnd r (λ (y : Refusal). y ≡ x) → r ≡ Err x
+passed_as r x h = let p = err_from_is_err_and r h in rw (p.1, p.2)
+
 -- what an absent value is refused with
 pub missing : {A : Type 0} (o : Option A) (e x : Refusal) → Err x ≡ ok_or o e → o ≡ None → x ≡ e
 missing o e x h q = let k = rw q at h in cc

@@ -2,24 +2,19 @@
 // high byte first. Code 0 begins a new script, 1 opens, 2 adds an edge, 3 adds a label, 4 seals.
 #![tactic(auto)]
 
-use plan::{Answer, Built, Plan};
-
-fn word(high: u8, low: u8) -> u16 {
-    (high as u16) * 256 + (low as u16)
-}
+use plan::{Plan, PlanError};
 
 fn byte(n: u16) -> u8 {
     (n % 256) as u8
 }
 
-fn play(p: Plan, call: [u8; 11]) -> Built {
-    let code = call[0];
-    let a = word(call[1], call[2]);
-    let b = word(call[3], call[4]);
-    let c = word(call[5], call[6]);
-    let d = word(call[7], call[8]);
-    let e = word(call[9], call[10]);
-    match code {
+fn play(p: Plan, call: [u8; 11]) -> Result<Plan, PlanError> {
+    let a = u16::from_be_bytes([call[1], call[2]]);
+    let b = u16::from_be_bytes([call[3], call[4]]);
+    let c = u16::from_be_bytes([call[5], call[6]]);
+    let d = u16::from_be_bytes([call[7], call[8]]);
+    let e = u16::from_be_bytes([call[9], call[10]]);
+    match call[0] {
         1 => {
             let lo = integers::signed16(call[1], call[2]);
             let hi = integers::signed16(call[3], call[4]);
@@ -32,14 +27,14 @@ fn play(p: Plan, call: [u8; 11]) -> Built {
     }
 }
 
-fn write_answer(answer: Answer) {
+fn write_answer(answer: Result<Plan, PlanError>) {
     match answer {
-        Answer::Done => {
+        Ok(_) => {
             io::write_all(1, b"ok\n");
         }
-        Answer::Refused(n) => {
+        Err(e) => {
             io::write_all(1, b"refusal ");
-            io::print_decimal(1, n as u64);
+            io::print_decimal(1, e.refusal.number() as u64);
             io::write_all(1, b"\n");
         }
     }
@@ -52,9 +47,11 @@ fn main() {
         if io::read_full(0, &mut call) < 11 {
             return;
         }
-        let built = play(plan, call);
-        plan = built.plan;
-        let answer = built.answer;
+        let answer = play(plan, call);
+        plan = match answer {
+            Ok(next) => next,
+            Err(e) => e.plan,
+        };
         if call[0] != 0 {
             write_answer(answer);
         }

@@ -20,24 +20,12 @@ at l i = get_or l i (pos 0)
 
 -- ---- contracts
 
--- the first n numbers of run m are those of r
-pub record PutTo (n m : ℕ) (r : Run) (l l' : List ℤ) : Type 0 where
-  pub size : length l' ≡ length l
-  pub here : (f : ℕ) → f < n → at l' (5 * m + f) ≡ at (five_of r) f
-  pub other : (i : ℕ) → (i < 5 * m) ⊎ (5 * m + n ≤ i) → at l' i ≡ at l i
-
 -- the five numbers of r are stored one after the other
 pub record Put (m : ℕ) (r : Run) (l l' : List ℤ) : Type 0 where
   pub is : l' ≡ sets l (5 * m) (five_of r)
   pub size : length l' ≡ length l
   pub here : (f : ℕ) → f < 5 → at l' (5 * m + f) ≡ at (five_of r) f
   pub other : (i : ℕ) → (i < 5 * m) ⊎ (5 * m + 5 ≤ i) → at l' i ≡ at l i
-
-pub record Swapped (i j : ℕ) (l l' : List ℤ) : Type 0 where
-  pub size : length l' ≡ length l
-  pub first : at l' i ≡ at l j
-  pub second : at l' j ≡ at l i
-  pub other : (k : ℕ) → (k ≡ i → ⊥) → (k ≡ j → ⊥) → at l' k ≡ at l k
 
 -- the first n numbers of the runs a and b have changed places
 pub record SwappedTo (n a b : ℕ) (l l' : List ℤ) : Type 0 where

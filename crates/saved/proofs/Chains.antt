@@ -11,8 +11,7 @@ use Rattle.integers.specs.Rep.{le_or_lt}
 use Rattle.curve.specs.Pieces.{Formed, Built, Is, Held, Kept, Same, Copyable, Copied, piece}
 use Rattle.curve.specs.Lists.{opened, same_built, count_same, count_most_lem, count_is, copied_built}
 use Rattle.curve.specs.Curve.{curve_same, copied_curve}
-use Rattle.saved.specs.declared.Room.TheVariants.{Upto, Full}
-use Rattle.saved.specs.Packed.{Chain, Moved, Inside, PackReady, Packing, Saves, UnpackReady, Unpacked}
+use Rattle.saved.specs.Packed.{Chain, Moved, Inside, PackReady, Packing, UnpackReady, Unpacked}
 use Rattle.saved.specs.Packed.Chain.{nothing, then}
 
 -- ---- what is kept
@@ -218,19 +217,3 @@ module _ {ws : List ℕ} {a o n L : ℕ} (ready : UnpackReady ws a o n L) {q : �
         new : (m : ℕ) → Chain L ws a q m → Moved L ws m w' (o + q * (4 * L))
         new m' e = subst (λ (y : ℕ). Moved L ws y w' (o + q * (4 * L))) (chain_one d e)
             (moved_then (moved_same m.inside.size listed.held saved_still) (moved_copy (omega (arith, room_low, ready.start, m.inside.size, its_count, count_most_lem listed.held.formed)) c))
-
-pub unpack_all : {ws ws' : List ℕ} {a o n q L : ℕ} → q ≡ n → Unpacked ws ws' a o q L → Unpacked ws ws' a o n L
-unpack_all {ws} {ws'} {a} {o} {n} {q} {L} e m = subst (λ (x : ℕ). Unpacked ws ws' a o x L) e m
-
-pub packed_all : {ws ws' : List ℕ} {o a e n q L : ℕ} → q ≡ n → Packing ws ws' o a e q L → Packing ws ws' o a e n L
-packed_all {ws} {ws'} {o} {a} {e} {n} {q} {L} x m = subst (λ (y : ℕ). Packing ws ws' o a e y L) x m
-
--- where there is no room nothing is promised of the lists
-pub not_saved : {ws ws' : List ℕ} {o a limit n L : ℕ} → Inside a limit ws ws' → Saves ws ws' o a limit n L Full
-not_saved m = record { inside = m; upto = λ e x. absurd (clash e x) }
-  where
-    clash : (e : ℕ) → Full ≡ Upto e → ⊥
-    clash e x = let z : ◌≡◌ {A = ℕ} 0 1 = cc in omega arith
-
-pub all_saved : {ws ws' : List ℕ} {o a limit n q L to : ℕ} → q ≡ n → to ≤ limit → Inside a limit ws ws' → Packing ws ws' o a to q L → Saves ws ws' o a limit n L (Upto to)
-all_saved {ws} {ws'} {o} {a} {limit} {n} {q} {L} {to} x h m p = record { inside = m; upto = λ e y. let z : to ≡ e = cc in subst (λ (v : ℕ). (v ≤ limit) × Packing ws ws' o a v n L) z (h, packed_all x p) }

@@ -8,7 +8,7 @@ use native.Mathlib.Nat.{mul-le-mul, mul-le-mul_right, div-add-mod', mod-lt}
 use native.Mathlib.Numerals.{add-one}
 use lib.IntN.{ℤ}
 use lib.ListN.{length, get_or, set, length-set}
-use lib.Seq.{get_or-set_same, get_or-set_other}
+use lib.Seq.{get_or-set_same}
 use Rattle.integers.specs.Rep.{le_or_lt}
 use Rattle.plan.specs.declared.Plan.{Plan}
 use Rattle.model.specs.Model.{width}
@@ -24,23 +24,6 @@ use Rattle.layer.specs.Layer.{reading_most, count_most, base_of, list_at, LayerO
 use Rattle.saved.specs.Packed.{Chain, Inside, Row, Packing, Unpacked}
 use Rattle.saved.specs.Walk.{most_slots, table_size, stack_at, limit, Packed, Entry, Stack, time_of, off_of, Pushed, Dropped}
 use Rattle.saved.proofs.Chains.{chain_low, chain_next, chain_part, chain_same}
-
-pub product_low : (x y : ℕ) → x ≤ 4096 → y ≤ 8192 → x * y ≤ 33554432
-product_low x y h g = mul-le-mul h g
-
--- ---- the table
-
-set_old : (l : List ℕ) (i j x : ℕ) → (j ≡ i → ⊥) → get_or (set l i x) j 0 ≡ get_or l j 0
-set_old l i j x n = get_or-set_other l i j x 0 n
-
-pub pushed : (T : List ℕ) (n t e : ℕ) → length T ≡ table_size → n < most_slots → Pushed T n t e (set (set T n t) (most_slots + (n + 1)) e)
-pushed T n t e z h = record {
-  size = length-set (set T n t) (most_slots + (n + 1)) e ∙ length-set T n t;
-  time = set_old (set T n t) (most_slots + (n + 1)) n e (λ p. omega arith) ∙ get_or-set_same T n t 0 (omega arith);
-  off = get_or-set_same (set T n t) (most_slots + (n + 1)) e 0 (omega (arith, length-set T n t));
-  old_time = λ i g. set_old (set T n t) (most_slots + (n + 1)) i e (λ p. omega arith) ∙ set_old T n i t (λ p. omega arith);
-  old_off = λ i g. set_old (set T n t) (most_slots + (n + 1)) (most_slots + i) e (λ p. omega arith) ∙ set_old T n (most_slots + i) t (λ p. omega arith);
-}
 
 -- ---- one layer
 

@@ -11,27 +11,21 @@ use lib.ListN.{length, get_or, set}
 use Rattle.integers.specs.Rep.{le_or_lt}
 use Rattle.plan.specs.declared.Plan.{Plan}
 use Rattle.model.specs.Model.{width}
-use Rattle.model.specs.Checked.{Checked}
-use Rattle.model.specs.Labels.{label_on, counts, used_at}
+use Rattle.model.specs.Labels.{label_on, used_at}
 use Rattle.model.proofs.Labels.{used_most}
 use Rattle.model.specs.Held.{Table, first_table, next_table}
 use Rattle.model.specs.Ends.{table_at}
 use Rattle.layer.specs.declared.Shape.{Shape}
-use Rattle.layer.specs.Layer.{temp_words, place_most, layer_cell, layer_words, ShapeOf, LayerOf, Layer, Sources}
+use Rattle.layer.specs.Layer.{temp_words, place_most, layer_cell, layer_words, LayerOf, Layer, Sources}
 use Rattle.layer.proofs.Next.{table_next}
 use Rattle.layer.proofs.Lists.{layer_same}
 use Rattle.layer.specs.Next.{Aside, StepReady, Stepped, StartReady}
 use Rattle.saved.specs.declared.Walk.{Walk}
-use Rattle.saved.specs.declared.Room.{Room}
-use Rattle.saved.specs.declared.Room.TheVariants.{Upto}
+use Rattle.std.specs.Prelude.{Option, Some}
 use Rattle.saved.specs.Packed.{Inside, Row, PackReady, Packing, Saves, UnpackReady, Unpacked}
 use Rattle.saved.specs.Walk.{most_slots, table_size, free_cell, limit_cell, stack_at, limit, Places, Entry, Stack, time_of, off_of, At, Workspace, Walked, Reached, Pushed, Dropped, Restarted, Stops}
 use Rattle.saved.proofs.Chains.{inside_wider, inside_then}
 use Rattle.saved.proofs.Stacks.{layer_row, layer_packed, packed_layer, off_low, off_high, stack_same, stack_kept, stack_pushed, stack_empty}
-
--- how many lists a layer has
-pub lists_are : {P : Plan} {g : Shape} (t n : ℕ) → Checked P → ShapeOf P g → n ≡ used_at P t → n ≤ counts → (n * g.states ≡ used_at P t * P.states) × (n * g.states ≤ 8 * counts)
-lists_are {P} {g} t n ch s e h = (rw (e, s.states) refl, rw s.states (omega (arith, mul-le-mul h ch.few_states)))
 
 pub stop_row : {P : Plan} {g : Shape} {w : Walk} {t : ℕ} {T ws : List ℕ} (a : Stops P g w t T ws) {n : ℕ} → n ≡ used_at P w.time * P.states
     → Row ws w.cur n g.levels × (w.cur + n * (4 * g.levels) ≤ place_most)
@@ -203,7 +197,7 @@ module _ {P : Plan} {zs : List ℤ} {g : Shape} {ws : List ℕ} (a : Workspace P
           room = omega (arith, area_is e, a.room);
         })
 
-        module _ {ws' : List ℕ} {r : Room} {n : ℕ} (all : n ≡ here) (m : Saves ws ws' w.cur (off_of T w.count) (limit_cell * x) n g.levels r) where
+        module _ {ws' : List ℕ} {r : Option ℕ} {n : ℕ} (all : n ≡ here) (m : Saves ws ws' w.cur (off_of T w.count) (limit_cell * x) n g.levels r) where
           saves_inside : Inside 0 (limit P) ws ws'
           saves_inside = inside_wider 0 (limit P) (omega arith) (omega (arith, area_is e)) m.inside
 
@@ -224,7 +218,7 @@ module _ {P : Plan} {zs : List ℤ} {g : Shape} {ws : List ℕ} (a : Workspace P
           }
 
           -- packed above the stack the layer is one entry more
-          pub pushed_walked : {o t : ℕ} {T' : List ℕ} → w.time ≡ t → r ≡ Upto o → w.count < most_slots → Pushed T w.count w.time o T'
+          pub pushed_walked : {o t : ℕ} {T' : List ℕ} → w.time ≡ t → r ≡ Some o → w.count < most_slots → Pushed T w.count w.time o T'
               → Walked P zs t T' ws ws' (record { time = w.time; cur = w.cur; other = w.other; count = w.count + 1 })
           pushed_walked {o} q z few d = record {
             at = record { some = p.some; most = p.most; places = p.places; layer = still_layer };

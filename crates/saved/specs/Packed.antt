@@ -1,10 +1,8 @@
 -- Lists packed end to end. Assumes nothing.
-use Rattle.std.specs.Prelude.{◌≡◌, ◌⊎◌, List, ℕ, zero, suc, ◌+◌, ◌*◌, ◌≤◌, ◌<◌, length, get_or}
+use Rattle.std.specs.Prelude.{◌≡◌, ◌⊎◌, List, ℕ, zero, suc, ◌+◌, ◌*◌, ◌≤◌, ◌<◌, length, get_or, Option, Some}
 use Rattle.model.specs.Labels.{counts}
 use Rattle.curve.specs.Pieces.{Held}
 use Rattle.curve.specs.Curve.{Curve}
-use Rattle.saved.specs.declared.Room.{Room}
-use Rattle.saved.specs.declared.Room.TheVariants.{Upto}
 
 -- n lists over L levels, end to end, from a up to e
 pub data Chain (L : ℕ) (ws : List ℕ) (a : ℕ) : ℕ → ℕ → Type 0 where
@@ -39,10 +37,10 @@ pub record Packing (ws ws' : List ℕ) (o a e n L : ℕ) : Type 0 where
   pub chain : Chain L ws' a n e
   pub moved : (q m : ℕ) → q < n → Chain L ws' a q m → Moved L ws (o + q * (4 * L)) ws' m
 
--- they do, up to the end that is answered, or there was no room
-pub record Saves (ws ws' : List ℕ) (o a limit n L : ℕ) (r : Room) : Type 0 where
+-- they do, up to the end that is answered, or there was no room and none is answered
+pub record Saves (ws ws' : List ℕ) (o a limit n L : ℕ) (r : Option ℕ) : Type 0 where
   pub inside : Inside a limit ws ws'
-  pub upto : (e : ℕ) → r ≡ Upto e → (e ≤ limit) × Packing ws ws' o a e n L
+  pub upto : (e : ℕ) → r ≡ Some e → (e ≤ limit) × Packing ws ws' o a e n L
 
 -- ---- unpacking
 

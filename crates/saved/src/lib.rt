@@ -37,13 +37,6 @@ pub struct Walk {
     pub count: usize,
 }
 
-// Where packed lists end, or that there is no room for them.
-#[derive(Clone, Copy)]
-pub enum Room {
-    Upto(usize),
-    Full,
-}
-
 // States times levels: S · L above.
 fn area(g: Shape) -> usize
     requires { Shape-small g }
@@ -60,25 +53,23 @@ fn lists_at(plan: Plan, code: &[u64], g: Shape, t: usize) -> usize
     labels::counts_at(plan, code, t) * g.states
 }
 
-// The n lists from o on, packed from at on, unless they reach past limit.
-fn pack(ws: &mut [u64], o: usize, at: usize, limit: usize, n: usize, levels: u64) -> Room
+// The n lists from o on, packed from at on: where they end, or none where they would reach past limit.
+fn pack(ws: &mut [u64], o: usize, at: usize, limit: usize, n: usize, levels: u64) -> Option<usize>
     requires { PackReady ws.old o at limit n levels }
     ensures { Saves ws.old ws.new o at limit n levels result }
 {
     let size = 4 * (levels as usize);
     let mut to = at;
-    let mut q = 0;
-    while q < n {
+    for q in 0..n {
         let f = o + q * size;
         let words = 4 * curve::count(ws, f, levels);
         if limit - to < words {
-            return Room::Full;
+            return None;
         }
         curve::copy(ws, f, to, levels);
         to += words;
-        q += 1;
     }
-    Room::Upto(to)
+    Some(to)
 }
 
 // The n lists packed from at on, put in their places from o on.
@@ -88,11 +79,9 @@ fn unpack(ws: &mut [u64], at: usize, o: usize, n: usize, levels: u64)
 {
     let size = 4 * (levels as usize);
     let mut from = at;
-    let mut q = 0;
-    while q < n {
+    for q in 0..n {
         let pieces = curve::copy(ws, from, o + q * size, levels);
         from += 4 * pieces;
-        q += 1;
     }
 }
 
@@ -103,11 +92,9 @@ fn words_of(ws: &[u64], o: usize, n: usize, levels: u64) -> usize
 {
     let size = 4 * (levels as usize);
     let mut sum = 0;
-    let mut q = 0;
-    while q < n {
+    for q in 0..n {
         let pieces = curve::count(ws, o + q * size, levels);
         sum += 4 * pieces;
-        q += 1;
     }
     sum
 }
@@ -117,27 +104,14 @@ fn repeats(d: usize, c: usize) -> usize
     requires { (d ≤ 4096) × (c ≤ 4096) }
     ensures { result ≤ d }
 {
-    let mut r = 0;
     let mut b = 1;
-    while r < d {
+    for r in 0..d {
         if d <= b {
             return r;
         }
-        r += 1;
-        b = b * (c + r) / r;
+        b = b * (c + r + 1) / (r + 1);
     }
-    r
-}
-
-// x, or the nearest number from 1 to d.
-fn clamp(x: usize, d: usize) -> usize
-    requires { 0 < d }
-    ensures { (0 < result) × (result ≤ d) }
-{
-    if x == 0 {
-        return 1;
-    }
-    if x < d { x } else { d }
+    d
 }
 
 // Where to save next on the way from a to t, with room for c layers: t where there is none.
@@ -150,8 +124,7 @@ fn next_save(a: usize, t: usize, c: usize) -> usize
     }
     let d = t - a;
     let r = repeats(d, c + 1);
-    let x = d * r / (c + 1 + r);
-    a + clamp(x, d)
+    a + (d * r / (c + 1 + r)).clamp(1, d)
 }
 
 // How many layers of these words there is room for: at most the slots. Later layers are taken to be as large as the one at hand.
@@ -159,8 +132,7 @@ fn free_slots(words: usize, free: usize, slots: usize) -> usize
     requires { (words ≤ 8 * counts * 4096) × (slots ≤ most_slots) }
     ensures { result ≤ most_slots }
 {
-    let fit = free / (words + 1);
-    if fit < slots { fit } else { slots }
+    slots.min(free / (words + 1))
 }
 
 // How far to go before the next layer is saved, where at most so many slots are used: to t once they are. The slots are a matter of speed alone.
@@ -205,12 +177,10 @@ fn drop_after(table: &[usize], count: usize, t: usize) -> usize
     requires { (length table.now ≡ table_size) × (count ≤ most_slots) }
     ensures { Dropped table.now count t result }
 {
-    let mut n = count;
-    while 0 < n {
-        if table[n - 1] <= t {
-            return n;
+    for n in (0..count).rev() {
+        if table[n] <= t {
+            return n + 1;
         }
-        n -= 1;
     }
     0
 }
@@ -269,26 +239,21 @@ fn forward(
     ensures { Reached plan readings.now x walk.count ws.old ws.new result }
 {
     let free = FREE_AT * area(g);
-    let count = walk.count;
-    let mut time = walk.time;
     let mut cur = walk.cur;
     let mut other = walk.other;
-    while time < x {
+    for time in walk.time..x {
         let from = Origin {
             stays: cur,
             changes: cur,
         };
         layer::next_layer(ws, plan, code, readings, time, from, other, free, g);
-        let last = cur;
-        cur = other;
-        other = last;
-        time += 1;
+        (cur, other) = (other, cur);
     }
     Walk {
-        time,
+        time: x,
         cur,
         other,
-        count,
+        count: walk.count,
     }
 }
 
@@ -309,29 +274,18 @@ fn go_on(
     ensures { Walked plan readings.now x table.new ws.old ws.new result }
 {
     let w = forward(ws, plan, code, readings, g, walk, x);
-    if t <= x {
-        return w;
-    }
     let n = w.count;
-    if SLOTS <= n {
+    if t <= x || SLOTS <= n {
         return w;
     }
     let at = table[SLOTS + n];
     let limit = ALL_WORDS * area(g);
     let lists = lists_at(plan, code, g, w.time);
-    let room = pack(ws, w.cur, at, limit, lists, g.levels);
-    match room {
-        Room::Full => w,
-        Room::Upto(e) => {
-            push(table, n, w.time, e);
-            Walk {
-                time: w.time,
-                cur: w.cur,
-                other: w.other,
-                count: n + 1,
-            }
-        }
-    }
+    let Some(e) = pack(ws, w.cur, at, limit, lists, g.levels) else {
+        return w;
+    };
+    push(table, n, w.time, e);
+    Walk { count: n + 1, ..w }
 }
 
 // Forward to t, with layers saved on the way in at most so many slots: SLOTS where the walk goes back, 0 where it does not.

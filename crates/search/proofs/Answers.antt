@@ -14,8 +14,8 @@ use Rattle.model.proofs.Checked.{search_not_16}
 use Rattle.model.specs.Result.{Result, refused, whole, result_of}
 use Rattle.saved.specs.Packed.{Inside}
 use Rattle.saved.specs.Walk.{limit}
-use Rattle.search.specs.declared.Found.{Found}
-use Rattle.search.specs.declared.Found.TheVariants.{Refused}
+use Rattle.search.specs.Told.{Found}
+use Rattle.search.specs.Told.{Refused}
 use Rattle.search.specs.Search.{work_words, search_result, found_of, runs_after, words_left, words_after, looked}
 use Rattle.search.specs.Right.{search_early, search_short, search_narrow, search_looks}
 use Rattle.search.specs.Solve.{Solved}

@@ -7,8 +7,8 @@ use native.Mathlib.Omega.{arith}
 use lib.ListN.{length, drop, replicate}
 use borrow.Author.Tests.{ne_eqb}
 use Rattle.model.specs.Result.{Costs, no_costs}
-use Rattle.search.specs.declared.Filled.{Filled}
-use Rattle.search.specs.declared.Filled.TheVariants.{Refused}
+use Rattle.search.specs.ToldCosts.{Filled}
+use Rattle.search.specs.ToldCosts.{Refused}
 use Rattle.search.specs.Lent.{lent, lent_early, lent_short, lent_narrow, lent_looks}
 use Rattle.search.specs.Search.{words_left}
 use Rattle.search.specs.Costs.{filled_of, costs_after, costs_looked, FilledBy}

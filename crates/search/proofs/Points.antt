@@ -33,8 +33,8 @@ use Rattle.layer.specs.Next.{Task}
 use Rattle.saved.specs.declared.Walk.{Walk}
 use Rattle.saved.specs.Walk.{Walked}
 use Rattle.back.specs.Read.{Readable, Reads, layer_reads, layer_readable}
-use Rattle.search.specs.declared.Cost.{Cost}
-use Rattle.search.specs.declared.Cost.TheVariants.{Least, Refusal}
+use Rattle.search.specs.Told.{Cost}
+use Rattle.search.specs.Told.{Least, NoCost}
 use Rattle.search.specs.Search.{work_words, point_result, cost_of, words_after, looked}
 use Rattle.search.specs.Right.{point_early_is, point_short_is, point_looks}
 use Rattle.search.specs.Solve.{Askable, Told}
@@ -105,7 +105,7 @@ module _ (P : Plan) (zs : List ℤ) (s : ℕ) (m : ℤ) {g : Shape} {ws : List �
         told : {r : Cost} (q : Result) → result_of P zs (point s m) ≡ q → r ≡ cost_of q → looked q ≡ true → Told P zs s m r ws ws'
         told q e h l = record { answer = h ∙ ap cost_of (sym e); looks = ap looked e ∙ l; inside = walked.inside }
 
-        pub told_none : none ≤ c → Told P zs s m (Refusal 16) ws ws'
+        pub told_none : none ≤ c → Told P zs s m (NoCost 16) ws ws'
         told_none h = told (refused 16) (result_is ∙ ap found_cost (reported_none least (omega (arith, least_is)))) refl refl
 
         pub told_least : c < none → Told P zs s m (Least c) ws ws'
@@ -133,17 +133,17 @@ abbrev pub Answered : Plan → List ℤ → ℕ → ℤ → Cost → List ℕ �
 Answered P zs s m r ws ws' = (r ≡ cost_of (point_result P zs s m (length ws))) × (ws' ≡ words_after P (point_result P zs s m (length ws)) ws)
 
 module _ (P : Plan) (zs : List ℤ) (s : ℕ) (m : ℤ) (ws : List ℕ) where
-  refusal : (n : ℕ) → point_result P zs s m (length ws) ≡ refused n → (n ≡ 16 → ⊥) → Answered P zs s m (Refusal n) ws ws
+  refusal : (n : ℕ) → point_result P zs s m (length ws) ≡ refused n → (n ≡ 16 → ⊥) → Answered P zs s m (NoCost n) ws ws
   refusal n e h = (ap cost_of (sym e), untouched P _ n ws e h)
 
-  pub point_early : (n : ℕ) → n ≡ point_number P (length zs) s m → (n ≡ 0 → ⊥) → Answered P zs s m (Refusal n) ws ws
+  pub point_early : (n : ℕ) → n ≡ point_number P (length zs) s m → (n ≡ 0 → ⊥) → Answered P zs s m (NoCost n) ws ws
   point_early n e h = refusal n (point_early_is P zs s m (length ws) n e h) (λ q. point_not_16 P (length zs) s m (sym e ∙ q))
 
   module _ (n : ℕ) (e : n ≡ point_number P (length zs) s m) (z : n ≡ 0) (need : ℕ) (en : need ≡ work_words P) where
     ok : point_number P (length zs) s m ≡ 0
     ok = sym e ∙ z
 
-    pub point_short : length ws < need → Answered P zs s m (Refusal 14) ws ws
+    pub point_short : length ws < need → Answered P zs s m (NoCost 14) ws ws
     point_short h = refusal 14 (point_short_is P zs s m (length ws) ok (omega arith)) (λ q. omega (arith, q))
 
     pub point_answered : need ≤ length ws → {r : Cost} {ws' ws'' : List ℕ} → Told P zs s m r ws ws' → ws'' ≡ replicate need 0 ++ drop need ws' → Answered P zs s m r ws ws''

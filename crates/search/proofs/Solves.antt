@@ -34,7 +34,7 @@ use Rattle.runs.specs.Runs.{holds_is}
 use Rattle.trace.specs.declared.Point.{Point}
 use Rattle.trace.specs.Trace.{node_at}
 use Rattle.search.specs.declared.Ended.{Ended}
-use Rattle.search.specs.declared.Found.TheVariants.{Segmentation, Refused}
+use Rattle.search.specs.Told.{Segmentation, Refused}
 use Rattle.search.specs.Search.{work_words, found_of, runs_after, looked}
 use Rattle.search.specs.Cheapest.{Reaches, cheapest_none, cheapest_some, end_low, end_cost_lem}
 use Rattle.search.specs.Way.{WayReady, WayTo, Finished}

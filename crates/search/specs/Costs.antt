@@ -5,8 +5,8 @@ use Rattle.std.proofs.Common.{ap}
 use Rattle.std.proofs.Math.Seq.{take-append_seam}
 use Rattle.model.specs.Result.{Costs, cost_list, no_costs}
 use Rattle.saved.specs.Packed.{Inside}
-use Rattle.search.specs.declared.Filled.{Filled}
-use Rattle.search.specs.declared.Filled.TheVariants as F
+use Rattle.search.specs.ToldCosts.{Filled}
+use Rattle.search.specs.ToldCosts as F
 
 -- the answer as a value: the paper's number, or how many costs there are
 abbrev pub filled_of : Costs → Filled

@@ -1,3 +1,5 @@
+pub mod Told
+pub mod ToldCosts
 pub mod Lent
 pub mod Search
 pub mod Costs

@@ -5,10 +5,10 @@ use Rattle.model.specs.Model.{width}
 use Rattle.model.specs.Refusals.{search_number, point_number}
 use Rattle.model.specs.Result.{Result, found, refused, whole, point, result_of}
 use Rattle.search.specs.Lent.{lent}
-use Rattle.search.specs.declared.Found.{Found}
-use Rattle.search.specs.declared.Found.TheVariants.{Segmentation, Refused}
-use Rattle.search.specs.declared.Cost.{Cost}
-use Rattle.search.specs.declared.Cost.TheVariants.{Least, Refusal}
+use Rattle.search.specs.Told.{Found}
+use Rattle.search.specs.Told.{Segmentation, Refused}
+use Rattle.search.specs.Told.{Cost}
+use Rattle.search.specs.Told.{Least, NoCost}
 
 -- "192 × S × L words" (ticket 2 of the change requests, 02) of 64 bits
 unfoldable pub work_words : Plan → ℕ
@@ -29,7 +29,7 @@ found_of (refused n) = Refused n
 
 abbrev pub cost_of : Result → Cost
 cost_of (found c ns) = Least c
-cost_of (refused n) = Refusal n
+cost_of (refused n) = NoCost n
 
 -- and what each case of an answer tells: the number of the refusal; or the cost, with the runs that stand in front of the lent list (`Right`:
 -- `search_tells`, `point_tells`)
@@ -39,7 +39,7 @@ found_result (Refused n) out = refused n
 
 abbrev pub cost_result : Cost → Result
 cost_result (Least c) = found c []
-cost_result (Refusal n) = refused n
+cost_result (NoCost n) = refused n
 
 -- "Runs fill the front of their buffer; the rest, and on refusal all of it, stays."
 abbrev pub runs_after : Result → List ℤ → List ℤ

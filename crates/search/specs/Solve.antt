@@ -6,8 +6,8 @@ use Rattle.model.specs.Result.{whole, point, result_of}
 use Rattle.layer.specs.declared.Shape.{Shape}
 use Rattle.saved.specs.Packed.{Inside}
 use Rattle.saved.specs.Walk.{Workspace, limit}
-use Rattle.search.specs.declared.Found.{Found}
-use Rattle.search.specs.declared.Cost.{Cost}
+use Rattle.search.specs.Told.{Found}
+use Rattle.search.specs.Told.{Cost}
 use Rattle.search.specs.Search.{found_of, cost_of, runs_after, looked}
 
 pub record Solvable (P : Plan) (zs : List ℤ) (g : Shape) (ws : List ℕ) (out : List ℤ) : Type 0 where

@@ -35,9 +35,7 @@ use Rattle.quadratic.specs.Fine.{far}
 use Rattle.edges.specs.Edge.{loss_place}
 use Rattle.layer.proofs.Next.{base_place}
 use Rattle.back.specs.Read.{Readable, Reads, layer_readable, layer_reads}
-use Rattle.back.specs.declared.Back.{Back}
-use Rattle.back.specs.declared.Back.TheVariants.{To, Lost}
-use Rattle.back.specs.Step.{BackReady, Meets, StepFound, StepTo}
+use Rattle.back.specs.Step.{BackReady, Meets, StepFound}
 use Rattle.trace.specs.declared.Point.{Point}
 use Rattle.trace.specs.Trace.{value_of, PointAt, node_at, StepMade, StepReady}
 
@@ -185,13 +183,6 @@ module _ {P : Plan} {zs : List ℤ} {t cur : ℕ} {g : Shape} {p : Point} {ws : 
 
   pub reads_here : {o : Option Label} → o ≡ label_on P t → Reads (used o) cur g ws (table_at P zs t)
   reads_here e = subst (λ (x : Option Label). Reads (used x) cur g ws (table_at P zs t)) (sym e) (layer_reads a.task a.layer)
-
-module _ (P : Plan) (t : ℕ) (H : Table) (k s j want : ℕ) (b : Back) (f : StepTo P t H k s j want b) where
-  pub lost_of : b ≡ Lost → (e : ℕ) → e < P.edgecount → Meets P t H k s j want e → ⊥
-  lost_of q = subst (StepTo P t H k s j want) q f
-
-  pub found_of_lem : {e i v c : ℕ} → b ≡ To e i v c → StepFound P t H k s j want e i (lex v c) × (c ≤ count_limit)
-  found_of_lem q = subst (StepTo P t H k s j want) q f
 
 -- the edge as code copied it
 module _ (P : Plan) (e : ℕ) (x : Edge) (q : x ≡ edge_at P e) where

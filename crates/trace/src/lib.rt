@@ -10,8 +10,6 @@ ghost use Rattle.coded.specs.Coded.{Coded};
 ghost use Rattle.runs.specs.Runs.{five_of};
 ghost use Rattle.trace.specs.Trace.{StepReady, StepMade};
 
-use back::Back;
-use labels::Cover;
 use layer::Shape;
 use plan::{Edge, Kind, Plan};
 use runs::Run;
@@ -34,29 +32,16 @@ fn square_of(u: u64, v: u64) -> u64
     requires { (u < 262144) × (v < 262144) }
     ensures { result ≡ far u v * far u v }
 {
-    let d = distance(u, v);
+    let d = u.abs_diff(v);
     d * d
 }
 
-fn distance(u: u64, v: u64) -> u64
-    requires { (u < 262144) × (v < 262144) }
-    ensures { (result ≡ far u v) × (result < 262144) }
-{
-    if u < v { v - u } else { u - v }
-}
-
 // A stay edge from a state to itself.
+#[tactic(auto, unfolding(model::specs::Run::joins, model::specs::Run::is_stay))]
 fn joins_run(e: Edge) -> bool
     ensures { result ≡ joins e }
 {
-    let kind = e.kind;
-    match kind {
-        Kind::Stay => e.from == e.to,
-        Kind::Any => false,
-        Kind::Up(_) => false,
-        Kind::Down(_) => false,
-        Kind::Abs(_) => false,
-    }
+    matches!(e.kind, Kind::Stay) && e.from == e.to
 }
 
 // The numbers of a run.
@@ -92,7 +77,7 @@ pub fn step(
     let on = labels::label_on(plan, code, t);
     let u = integers::bias(readings[t]);
     let want = from.value - square_of(u, g.base + from.level);
-    let found = back::step_back(
+    let Some(found) = back::step_back(
         ws,
         plan,
         code,
@@ -105,40 +90,27 @@ pub fn step(
         want,
         from.changes,
         g,
-    );
-    let Back::To {
-        edge,
-        level,
-        value,
-        changes,
-    } = found
-    else {
+    ) else {
         return from;
     };
-    let e = coded::edge_in(code, edge);
-    let kind = e.kind;
-    let count = labels::count_before(on, t, kind, from.count);
-    let state = e.from as usize;
+    let e = coded::edge_in(code, found.edge);
+    let before = Point {
+        count: labels::count_before(on, t, e.kind, from.count),
+        state: e.from as usize,
+        level: found.level,
+        value: found.value,
+        changes: found.changes,
+        ..from
+    };
     if joins_run(e) {
-        return Point {
-            count,
-            state,
-            level,
-            value,
-            changes,
-            last: from.last,
-            runs: from.runs,
-        };
+        return before;
     }
+    let edge = found.edge;
     let r = run_of(t + 1, from.last, from.state, plan.lo, from.level, edge);
     runs::put_run(out, from.runs, r);
     Point {
-        count,
-        state,
-        level,
-        value,
-        changes,
         last: t,
         runs: from.runs + 1,
+        ..before
     }
 }

@@ -14,8 +14,8 @@ use Rattle.model.specs.Window.{starts, windows_of}
 use Rattle.layer.specs.declared.Shape.{Shape}
 use Rattle.layer.specs.Layer.{ShapeOf}
 use Rattle.saved.specs.Walk.{limit_cell, limit}
-use Rattle.search.specs.declared.Filled.{Filled}
-use Rattle.search.specs.declared.Filled.TheVariants.{Refused}
+use Rattle.search.specs.ToldCosts.{Filled}
+use Rattle.search.specs.ToldCosts.{Refused}
 use Rattle.search.specs.Search.{work_words}
 use Rattle.search.specs.Costs.{filled_of, costs_after}
 use Rattle.search.proofs.Solves.{need_is}

@@ -20,7 +20,7 @@ use Rattle.saved.specs.Walk.{Workspace, limit}
 use Rattle.search.specs.declared.Ended.{Ended}
 use Rattle.search.specs.Cheapest.{Reaches, cheapest_none, cheapest_some}
 use Rattle.search.proofs.Solves.{task_of}
-use Rattle.search.specs.declared.Filled.TheVariants as F
+use Rattle.search.specs.ToldCosts as F
 use Rattle.search.specs.Costs.{filled_of, costs_after, costs_looked}
 use Rattle.windows.specs.Fill.{Fillable, FilledTo}
 

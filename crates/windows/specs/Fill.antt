@@ -7,7 +7,7 @@ use Rattle.model.specs.Window.{starts, windows_of}
 use Rattle.layer.specs.declared.Shape.{Shape}
 use Rattle.layer.specs.Layer.{ShapeOf}
 use Rattle.saved.specs.Walk.{limit}
-use Rattle.search.specs.declared.Filled.{Filled}
+use Rattle.search.specs.ToldCosts.{Filled}
 use Rattle.search.specs.Costs.{FilledBy}
 
 pub record Fillable (P : Plan) (zs : List ℤ) (w : ℕ) (g : Shape) (ws out : List ℕ) : Type 0 where

@@ -4,13 +4,13 @@
 ghost use Rattle.std.specs.Prelude.{◌≡◌, length};
 ghost use Rattle.coded.specs.Coded.{Coded};
 ghost use Rattle.saved.specs.Walk.{table_size};
+ghost use Rattle.search.specs.ToldCosts.{filled_told};
 ghost use Rattle.search.specs.Costs.{filled_of, costs_after};
 ghost use Rattle.windows.specs.Windows.{window_result, window_words};
 ghost use Rattle.windows.specs.Fill.{Fillable, FilledTo};
 
 use layer::Shape;
-use plan::Plan;
-use search::Filled;
+use plan::{Plan, Refusal};
 
 // The costs of all parts, one after the other. Each part is searched as if it were the record; no layer is saved, since nothing goes back.
 fn each_part(
@@ -22,30 +22,35 @@ fn each_part(
     g: Shape,
     table: &mut [usize],
     costs: &mut [u64],
-) -> Filled
+) -> Result<usize, Refusal>
     requires fillable { Fillable plan «record».now w g ws.old costs.old }
     requires coded { Coded plan code.now × (length table.old ≡ table_size) }
-    ensures { FilledTo plan «record».now w result ws.old ws.new costs.old costs.new }
+    ensures { FilledTo plan «record».now w (filled_told result) ws.old ws.new costs.old costs.new }
 {
     let last = record.len() - w;
-    let mut a = 0;
-    while a <= last {
+    for a in 0..last + 1 {
         let reached = search::cheapest(ws, plan, code, &record[a..a + w], g, table, 0);
         let end = reached.end;
         let least = end.value;
         if quadratic::NONE <= least {
-            return Filled::Refused(16);
+            return Err(Refusal::NoSegmentation);
         }
         costs[a] = least;
-        a += 1;
     }
-    Filled::Costs(a)
+    Ok(last + 1)
 }
 
 // The walk with what it lends to every part: the plan's edges and labels, and the table of saved layers, of which none is used.
-fn fill(ws: &mut [u64], plan: Plan, record: &[i16], w: usize, g: Shape, costs: &mut [u64]) -> Filled
+fn fill(
+    ws: &mut [u64],
+    plan: Plan,
+    record: &[i16],
+    w: usize,
+    g: Shape,
+    costs: &mut [u64],
+) -> Result<usize, Refusal>
     requires { Fillable plan «record».now w g ws.old costs.old }
-    ensures { FilledTo plan «record».now w result ws.old ws.new costs.old costs.new }
+    ensures { FilledTo plan «record».now w (filled_told result) ws.old ws.new costs.old costs.new }
 {
     let mut table = [0usize; saved::TABLE];
     let mut code = [0u64; coded::SIZE];
@@ -60,23 +65,20 @@ pub fn least_costs(
     w: usize,
     workspace: &mut [u64],
     costs: &mut [u64],
-) -> Filled
-    ensures answer { result ≡ filled_of (window_result plan «record».now w (length workspace.old) (length costs.old)) }
+) -> Result<usize, Refusal>
+    ensures answer { filled_told result ≡ filled_of (window_result plan «record».now w (length workspace.old) (length costs.old)) }
     ensures list { costs.new ≡ costs_after (window_result plan «record».now w (length workspace.old) (length costs.old)) costs.old }
     ensures words { workspace.new ≡ window_words plan (window_result plan «record».now w (length workspace.old) (length costs.old)) workspace.old }
 {
     let n = record.len();
-    let wrong = refusals::window_number(plan, n, w);
-    if wrong != 0 {
-        return Filled::Refused(wrong);
-    }
+    refusals::check_window(plan, n, w)?;
     let g = search::shape_of(plan);
     let need = search::work_words(g);
     if workspace.len() < need {
-        return Filled::Refused(14);
+        return Err(Refusal::WorkspaceTooShort);
     }
     if costs.len() < n - w + 1 {
-        return Filled::Refused(15);
+        return Err(Refusal::ListTooShort);
     }
     search::read_all(record);
     let filled = fill(workspace, plan, record, w, g, costs);

@@ -1,11 +1,8 @@
+use Rattle.std.proofs.Common.{◌≤◌}
 use Rattle.quadratic.specs.Quad.{count_limit}
-use Rattle.back.specs.Read.{Reads, EndTo}
 use Rattle.model.specs.Held.{Table}
-use Prim.Native.Nat.{◌-◌, ◌≤◌}
+use Rattle.back.specs.Read.{Reads, EndTo}
 use Rattle.back.proofs.best_end.Given as goal
 
 abbrev pub invariant-loop-s : goal.invariant-loop-s
-invariant-loop-s l = ((l.s ≤ l.plan.states) × (l.best.changes ≤ count_limit)) × ((H : Table) → Reads 1 l.cur l.g l.ws H → EndTo l.plan H l.s l.best)
-
-abbrev pub decreases-loop-s : goal.decreases-loop-s
-decreases-loop-s l = l.states - l.s
+invariant-loop-s l = (l.best.changes ≤ count_limit) × ((H : Table) → Reads 1 l.cur l.g l.ws H → EndTo l.plan H l.s l.best)

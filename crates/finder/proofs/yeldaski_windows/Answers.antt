@@ -1,11 +1,14 @@
-use mathlib.Core.Path.{◌∙◌, ap}
-use Rattle.plan.specs.Build.{answer_number}
-use Rattle.finder.specs.Finder.{refused_with}
-use Rattle.finder.proofs.Calls.{window_none, window_some}
+use Rattle.files.specs.Told.{file_of}
+use Rattle.finder.proofs.Calls.{window_none, window_some, refused_answer, counted_filled}
+use mathlib.Core.Path.{refl, sym, ◌∙◌, ap}
 use Rattle.finder.proofs.yeldaski_windows.Goals as goal
 
-pub returns-in_default : goal.returns-in_default
-returns-in_default c = let h = window_none _ _ c.read_plan-read.ensures _ c.in_default.is c.args.record.now c.args.w c.args.workspace.now c.args.costs.now in record { answer = (c.refused.ensures ∙ ap refused_with (c.answer_number.ensures ∙ ap answer_number c.in_default.is) ∙ h.0); list = h.1.0; words = h.1.1 }
+pub returns-in-Err : goal.returns-in-Err
+returns-in-Err c =
+    let h = window_none _ _ (sym (ap file_of c.in-Err.is) ∙ c.read_plan.ensures) _ (refused_answer _) c.args.record.now c.args.w c.args.workspace.now c.args.costs.now in
+    record { answer = c.refused.ensures ∙ h.0; list = h.1.0; words = h.1.1 }
 
-pub returns : goal.returns
-returns c = let p = window_some _ _ c.read_plan-read.ensures c.in-Done.is c.args.record.now c.args.w c.args.workspace.now _ c.args.costs.now _ _ _ c.filled.ensures (c.least_costs.ensures.answer, (c.least_costs.ensures.list, c.least_costs.ensures.words)) in record { answer = p.0; list = p.1.0; words = p.1.1 }
+pub returns-in-Ok : goal.returns-in-Ok
+returns-in-Ok c =
+    let h = window_some _ _ (sym (ap file_of c.in-Ok.is) ∙ c.read_plan.ensures) refl c.args.record.now c.args.w c.args.workspace.now _ c.args.costs.now _ _ _ (c.counted.ensures ∙ counted_filled _) (c.least_costs.ensures.answer, (c.least_costs.ensures.list, c.least_costs.ensures.words)) in
+    record { answer = h.0; list = h.1.0; words = h.1.1 }

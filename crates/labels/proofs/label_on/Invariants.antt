@@ -1,12 +1,7 @@
-use Prim.Native.Nat.{◌≤◌}
-use mathlib.Core.Path.{◌≡◌}
-use Rattle.plan.specs.declared.Plan.{Plan}
-use Rattle.coded.specs.Coded.{Coded}
-use Rattle.labels.proofs.Counts.{covering_in}
+use Rattle.std.proofs.Common.{◌≡◌}
+use Rattle.model.specs.Labels.{covering, label_on}
 use Rattle.labels.proofs.label_on.Given as goal
 
+-- the labels from i on do not have the boundary
 abbrev pub invariant-loop-i : goal.invariant-loop-i
-invariant-loop-i l = (l.i ≤ l.initial.i) × ((P : Plan) → Coded P l.code → l.initial.i ≤ 64 → covering_in P.labels l.initial.i l.t ≡ covering_in P.labels l.i l.t)
-
-abbrev pub decreases-loop-i : goal.decreases-loop-i
-decreases-loop-i l = l.i
+invariant-loop-i l = label_on l.fn.plan l.t ≡ covering l.fn.plan l.i l.t

@@ -13,13 +13,7 @@ use Rattle.neighbourhood.proofs.put_entries.Goals.{then-cost, else-cost}
 use Rattle.neighbourhood.proofs.put_entries.Goals as goal
 
 pub loop-k-init : goal.loop-k-init
-loop-k-init c = (omega arith, entered_none _ _ _ _)
-
-pub overflow_add-k : goal.overflow_add-k
-overflow_add-k c = omega (arith, c.loop-k-test.true, c.requires.0.few)
-
-pub slot_of-requires : goal.slot_of-requires
-slot_of-requires c = (omega (arith, c.requires.1.1.0, c.requires.0.few), omega (arith, c.loop-k-test.true, c.requires.0.few))
+loop-k-init c = entered_none _ _ _ _
 
 pub place_of-o-requires : goal.place_of-o-requires
 place_of-o-requires c = (shape_small c.requires.0.task, omega (arith, c.slot_of.ensures, slot_low c.args.bank (c.loop-k.k + 1) (length c.args.readings.now), c.requires.1.1.0, c.loop-k-test.true, c.requires.0.few))
@@ -27,23 +21,5 @@ place_of-o-requires c = (shape_small c.requires.0.task, omega (arith, c.slot_of.
 pub entry-cost-requires : goal.entry-cost-requires
 entry-cost-requires c = may_read c.requires.0 c.requires.1.0 c.loop-k.k (omega (arith, c.loop-k-test.true)) (slot_place c.requires.0 c.args.bank _ (length c.args.readings.now) (c.slot_of.ensures ∙ ap (λ (x : ℕ). slot_of c.args.bank x (length c.args.readings.now)) (add-one c.loop-k.k)) c.place_of-o.ensures) c.place_of-o.ensures.1
 
-pub offset_bounds-list-k : goal.offset_bounds-list-k
-offset_bounds-list-k c = omega (arith, c.loop-k-test.true, c.requires.0.few)
-
-pub bounds-list-k : goal.bounds-list-k
-bounds-list-k c = omega (arith, c.loop-k-test.true, c.requires.1.1.1, c.loop-k.invariant.1.size)
-
-pub overflow_add-k-in-loop-k : goal.overflow_add-k-in-loop-k
-overflow_add-k-in-loop-k c = omega (arith, c.loop-k-test.true, c.requires.0.few)
-
-pub loop-k-smaller : goal.loop-k-smaller
-loop-k-smaller c = omega (arith, c.loop-k-test.true)
-
 pub loop-k-preserved : goal.loop-k-preserved
-loop-k-preserved c = (omega (arith, c.loop-k-test.true), entered_more c.loop-k.invariant.1 (omega (arith, c.loop-k-test.true, c.requires.1.1.1, c.loop-k.invariant.1.size)) (entry_is c.requires.0 c.requires.1.0 c.loop-k.k (omega (arith, c.loop-k-test.true)) (slot_place c.requires.0 c.args.bank _ (length c.args.readings.now) (c.slot_of.ensures ∙ ap (λ (x : ℕ). slot_of c.args.bank x (length c.args.readings.now)) (add-one c.loop-k.k)) c.place_of-o.ensures) c.entry-cost.ensures) c.requires.0.accepts (elim c.if-cost.branch [ then-cost w ↦ inl (w.if-cost.true, w.some-is) | else-cost w ↦ inr w.some-is ]))
-
-pub shape_of-list : goal.shape_of-list
-shape_of-list c = c.loop-k.invariant.1.size
-
-pub returns : goal.returns
-returns c = entered_all (omega (arith, c.loop-k-test.false, c.loop-k.invariant.0)) c.loop-k.invariant.1
+loop-k-preserved c = entered_more c.loop-k.invariant (omega (arith, c.loop-k-test.true, c.requires.1.1.1, c.loop-k.invariant.size)) (entry_is c.requires.0 c.requires.1.0 c.loop-k.k (omega (arith, c.loop-k-test.true)) (slot_place c.requires.0 c.args.bank _ (length c.args.readings.now) (c.slot_of.ensures ∙ ap (λ (x : ℕ). slot_of c.args.bank x (length c.args.readings.now)) (add-one c.loop-k.k)) c.place_of-o.ensures) c.entry-cost.ensures) c.requires.0.accepts (elim c.if-cost.branch [ then-cost w ↦ inl (w.if-cost.true, w.some-is) | else-cost w ↦ inr w.some-is ])

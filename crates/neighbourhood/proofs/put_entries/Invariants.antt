@@ -4,7 +4,4 @@ use Prim.Native.Nat.{suc, ◌-◌, ◌≤◌}
 use Rattle.neighbourhood.proofs.put_entries.Given as goal
 
 abbrev pub invariant-loop-k : goal.invariant-loop-k
-invariant-loop-k l = (l.k ≤ suc l.most) × Entered l.plan l.readings l.most l.k l.some l.initial.list l.list
-
-abbrev pub decreases-loop-k : goal.decreases-loop-k
-decreases-loop-k l = suc l.most - l.k
+invariant-loop-k l = Entered l.plan l.readings l.most l.k l.some l.initial.list l.list

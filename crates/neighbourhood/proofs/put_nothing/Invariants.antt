@@ -4,7 +4,4 @@ use Prim.Native.Nat.{◌-◌, ◌≤◌}
 use Rattle.neighbourhood.proofs.put_nothing.Given as goal
 
 abbrev pub invariant-loop-q : goal.invariant-loop-q
-invariant-loop-q l = (l.q ≤ l.n) × Blank l.levels l.q l.initial.ws l.ws
-
-abbrev pub decreases-loop-q : goal.decreases-loop-q
-decreases-loop-q l = l.n - l.q
+invariant-loop-q l = Blank l.levels l.q l.initial.ws l.ws

@@ -4,7 +4,4 @@ use Prim.Native.Nat.{◌-◌, ◌≤◌}
 use Rattle.neighbourhood.proofs.step_slots.Given as goal
 
 abbrev pub invariant-loop-i : goal.invariant-loop-i
-invariant-loop-i l = (l.i ≤ l.last) × Stepping l.plan l.readings l.most l.t l.from l.to l.i l.initial.ws l.ws
-
-abbrev pub decreases-loop-i : goal.decreases-loop-i
-decreases-loop-i l = l.last - l.i
+invariant-loop-i l = Stepping l.plan l.readings l.most l.t l.from l.to l.i l.initial.ws l.ws

@@ -5,20 +5,17 @@ use Rattle.saved.proofs.go_on.Goals as goal
 pub returns-then-t-x : goal.returns-then-t-x
 returns-then-t-x c = reached_walked c.requires.goes.0.space c.requires.goes.1 c.forward-w.ensures
 
-pub returns-then-n-ge-SLOTS : goal.returns-then-n-ge-SLOTS
-returns-then-n-ge-SLOTS c = reached_walked c.requires.goes.0.space c.requires.goes.1 c.forward-w.ensures
-
-pub pack-room-requires : goal.pack-room-requires
-pack-room-requires c = let m = reached_walked c.requires.goes.0.space c.requires.goes.1 c.forward-w.ensures in
+pub pack-requires : goal.pack-requires
+pack-requires c = let m = reached_walked c.requires.goes.0.space c.requires.goes.1 c.forward-w.ensures in
     pack_ready (space_then c.requires.goes.0.space m.inside.size) m.at m.stack c.area-limit.ensures.0 c.lists_at-lists.ensures.0
 
 pub push-requires : goal.push-requires
 push-requires c = (c.requires.goes.1.size, omega (arith, c.if-n-ge-SLOTS.false))
 
-pub returns-in-Full : goal.returns-in-Full
-returns-in-Full c = let m = reached_walked c.requires.goes.0.space c.requires.goes.1 c.forward-w.ensures in
-    walked_then m (full_walked (space_then c.requires.goes.0.space m.inside.size) m.at m.stack c.area-limit.ensures.0 c.lists_at-lists.ensures.0 c.pack-room.ensures m.time)
+pub returns-in_default : goal.returns-in_default
+returns-in_default c = let m = reached_walked c.requires.goes.0.space c.requires.goes.1 c.forward-w.ensures in
+    walked_then m (full_walked (space_then c.requires.goes.0.space m.inside.size) m.at m.stack c.area-limit.ensures.0 c.lists_at-lists.ensures.0 c.pack.ensures m.time)
 
-pub returns-in-Upto : goal.returns-in-Upto
-returns-in-Upto c = let m = reached_walked c.requires.goes.0.space c.requires.goes.1 c.forward-w.ensures in
-    walked_then m (pushed_walked (space_then c.requires.goes.0.space m.inside.size) m.at m.stack c.area-limit.ensures.0 c.lists_at-lists.ensures.0 c.pack-room.ensures m.time c.in-Upto.is (omega (arith, c.if-n-ge-SLOTS.false)) c.push.ensures)
+pub returns : goal.returns
+returns c = let m = reached_walked c.requires.goes.0.space c.requires.goes.1 c.forward-w.ensures in
+    walked_then m (pushed_walked (space_then c.requires.goes.0.space m.inside.size) m.at m.stack c.area-limit.ensures.0 c.lists_at-lists.ensures.0 c.pack.ensures m.time c.in-Some.is (omega (arith, c.if-n-ge-SLOTS.false)) c.push.ensures)

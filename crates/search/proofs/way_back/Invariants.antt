@@ -1,11 +1,7 @@
 use Rattle.search.specs.Way.{WayTo}
 use Rattle.saved.specs.Walk.{At, Stack}
-use Prim.Native.Nat.{suc}
-use mathlib.Core.Path.{◌≡◌}
+use Rattle.std.proofs.Common.{◌≡◌, ◌-◌}
 use Rattle.search.proofs.way_back.Given as goal
 
 abbrev pub invariant-loop-t : goal.invariant-loop-t
-invariant-loop-t l = (At l.plan l.readings l.w l.ws × (Stack l.plan l.readings l.w.count l.table l.ws × (l.w.time ≡ suc l.t))) × WayTo l.plan l.readings l.t l.initial.p l.p l.initial.ws l.ws l.initial.out l.out
-
-abbrev pub decreases-loop-t : goal.decreases-loop-t
-decreases-loop-t l = l.t
+invariant-loop-t l = (At l.plan l.readings l.w l.ws × (Stack l.plan l.readings l.w.count l.table l.ws × (l.w.time ≡ l.t))) × WayTo l.plan l.readings (l.t - 1) l.initial.p l.p l.initial.ws l.ws l.initial.out l.out

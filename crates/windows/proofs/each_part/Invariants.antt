@@ -7,7 +7,4 @@ use Prim.Native.Nat.{◌+◌, ◌-◌, ◌≤◌}
 use Rattle.windows.proofs.each_part.Given as goal
 
 abbrev pub invariant-loop-a : goal.invariant-loop-a
-invariant-loop-a l = (l.a ≤ l.last + 1) × (Inside 0 (limit l.plan) l.initial.ws l.ws × ((length l.table ≡ table_size) × Costed l.plan l.record l.w l.a l.initial.costs l.costs))
-
-abbrev pub decreases-loop-a : goal.decreases-loop-a
-decreases-loop-a l = l.last + 1 - l.a
+invariant-loop-a l = Inside 0 (limit l.plan) l.initial.ws l.ws × ((length l.table ≡ table_size) × Costed l.plan l.record l.w l.a l.initial.costs l.costs)

@@ -1,9 +1,0 @@
-use Rattle.search.proofs.Zeros.{Cleared}
-use Prim.Native.Nat.{◌-◌, ◌≤◌}
-use Rattle.search.proofs.clear.Given as goal
-
-abbrev pub invariant-loop-i : goal.invariant-loop-i
-invariant-loop-i l = (l.i ≤ l.n) × Cleared l.i l.initial.ws l.ws
-
-abbrev pub decreases-loop-i : goal.decreases-loop-i
-decreases-loop-i l = l.n - l.i
