@@ -13,14 +13,11 @@ pub fn bias(x: i16) -> u64
 }
 
 // n / d rounded down, for every d above zero; 0 for the others.
+#[tactic(auto, unfolding(crate::specs::Floor::floor_div))]
 pub fn floor_div(n: i64, d: i64) -> i64
     ensures { result ≡ floor_div n d }
 {
-    if d <= 0 {
-        return 0;
-    }
-    let q = n / d;
-    if n % d < 0 { q - 1 } else { q }
+    if d <= 0 { 0 } else { n.div_euclid(d) }
 }
 
 // The signed number of two bytes, the high one first, by arithmetic alone: a test for the sign, as `i16::from_be_bytes` has, is predicted badly on readings around zero. Turned by
