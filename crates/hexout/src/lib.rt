@@ -7,18 +7,15 @@ ghost use Rattle.std.specs.Prelude.{◌≡◌, ◌%◌};
 ghost use Rattle.hexout.specs.Digits.{digit_of};
 ghost use Rattle.hexout.specs.Input.{FileIn};
 
-use fields::Written;
+use plan::Refusal;
 
 // The digit of the low four bits.
-#[tactic(auto, using(crate::proofs::Digits::low_digit, crate::proofs::Digits::high_digit))]
+#[tactic(auto, unfolding(crate::specs::Digits::digit_of))]
 pub fn digit(b: u8) -> u8
     ensures { result ≡ digit_of (b % 16) }
 {
     let n = b % 16;
-    if n < 10 {
-        return n + 48;
-    }
-    n + 87
+    if n < 10 { b'0' + n } else { b'a' + (n - 10) }
 }
 
 fn show_byte(b: u8) {
@@ -41,34 +38,34 @@ pub fn show_number(n: u8) {
     end_line();
 }
 
-pub fn show_written(w: Written, out: &[u8]) {
+pub fn show_written(w: Result<usize, Refusal>, out: &[u8]) {
     match w {
-        Written::Refused(n) => show_number(n),
-        Written::Bytes(m) => {
-            if m <= out.len() {
-                show_bytes(&out[..m]);
+        Ok(n) => {
+            if let Some(bytes) = out.get(..n) {
+                show_bytes(bytes);
             }
             end_line();
         }
+        Err(refusal) => show_number(refusal.number()),
     }
 }
 
-// The length of the next file, in two bytes in front of it; 65,536 where the input has ended.
-fn next_length() -> usize {
+// The length of the next file, in two bytes in front of it; none where the input has ended.
+fn next_length() -> Option<usize> {
     let mut head = [0u8; 2];
     if io::read_full(0, &mut head) < 2 {
-        return 65536;
+        return None;
     }
-    fields::word(head[0], head[1]) as usize
+    Some(usize::from(u16::from_be_bytes(head)))
 }
 
-// Reads the next file to the front of a buffer, and answers its length; 65,536 where the input has ended or the file does not fit.
-pub fn read_file(buffer: &mut [u8]) -> usize
+// Reads the next file to the front of a buffer, and answers its length; none where the input has ended or the file does not fit.
+pub fn read_file(buffer: &mut [u8]) -> Option<usize>
     ensures { FileIn result buffer.old buffer.new }
 {
-    let n = next_length();
+    let n = next_length()?;
     if buffer.len() <= n {
-        return 65536;
+        return None;
     }
-    io::read_full(0, &mut buffer[..n])
+    Some(io::read_full(0, &mut buffer[..n]))
 }

@@ -13,21 +13,21 @@ pub fn bias(x: i16) -> u64
 }
 
 // n / d rounded down, for every d above zero; 0 for the others.
+#[tactic(auto, unfolding(crate::specs::Floor::floor_div))]
 pub fn floor_div(n: i64, d: i64) -> i64
     ensures { result ≡ floor_div n d }
 {
-    if d <= 0 {
-        return 0;
-    }
-    let q = n / d;
-    if n % d < 0 { q - 1 } else { q }
+    if d <= 0 { 0 } else { n.div_euclid(d) }
 }
 
-// The signed number of two bytes, the high one first.
+// The signed number of two bytes, the high one first, by arithmetic alone: a test for the sign, as `i16::from_be_bytes` has, is predicted badly on readings around zero. Turned by
+// half the range the numbers stand in the order of the signed ones, the lowest at 0; then the half is taken away.
 pub fn signed16(high: u8, low: u8) -> i16
     ensures { result ≡ signed16 (word high low) }
 {
-    i16::from_be_bytes([high, low])
+    let n = (high as u32) * 256 + (low as u32);
+    let turned = (n + 32768) % 65536;
+    ((turned as i32) - 32768) as i16
 }
 
 // The two bytes of a signed number.

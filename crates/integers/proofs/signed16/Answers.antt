@@ -1,16 +1,20 @@
 -- `integers::signed16` meets its contract. Assumes nothing.
-use native.Mathlib.Omega.{arith}
-use Prim.Native.Nat.{◌<◌}
-use mathlib.Core.Path.{◌∙◌}
-use mir.Syntax.{w16}
-use mir.ValLaws.{to_z-of_z}
+use Rattle.integers.proofs.Halves.{lowered_32, lowered_16, turned_is}
 use Rattle.integers.specs.Bytes.{word}
-use Rattle.integers.proofs.Halves.{signed_is}
+use Prim.Native.Nat.{◌<◌}
+use native.Mathlib.Nat.{mod-lt}
+use native.Mathlib.Omega.{arith}
+use borrow.Author.Rules.{rules}
 use Rattle.integers.proofs.signed16.Goals as goal
-use Rattle.integers.proofs.signed16.Goals.{Start}
 
-below : (c : Start) → word c.args.high c.args.low < 65536
+below : (c : goal.Start) → word c.args.high c.args.low < 65536
 below c = omega (arith, c.ranges.high, c.ranges.low)
 
+pub overflow_sub-result : goal.overflow_sub-result
+overflow_sub-result c = search (rules, lowered_32, mod-lt)
+
+pub overflow_cast-result-2 : goal.overflow_cast-result-2
+overflow_cast-result-2 c = search (rules, lowered_16, mod-lt)
+
 pub returns : goal.returns
-returns c = to_z-of_z w16 c.from_be_bytes.result (record { sfits = c.from_be_bytes.type_inv }) ∙ c.from_be_bytes.ensures ∙ signed_is (word c.args.high c.args.low) (below c.before)
+returns c = search (turned_is, below c)
