@@ -55,7 +55,7 @@ module _ {P : Plan} {o : Option Label} {t k s j : ℕ} {g : Shape} (a : BackRead
         let c = leads_from_used o t (edge_at P e) k s (led e ∙ l) in
         let q = least_same (λ i hi. r.at (count_before o t (edge_at P e).kind k) (edge_at P e).from i c (omega (arith, (a.checked.edge e h).from_below, a.shape.states)) hi) m in
         subst (λ (n : ℕ). LeastOf (λ (i : ℕ). Permitted (edge_at P e).kind i j) n (H (from_count P t e k) (edge_at P e).from) low) a.shape.levels
-        (subst (λ (n : ℕ). LeastOf (λ (i : ℕ). Permitted (edge_at P e).kind i j) g.levels (H n (edge_at P e).from) low) (count_is e) q)
+        (subst (λ (n : ℕ). LeastOf (λ (i : ℕ). Permitted (edge_at P e).kind i j) g.grid.levels (H n (edge_at P e).from) low) (count_is e) q)
 
     leads_or : (leads_at P t e k s ≡ true) ⊎ (leads_at P t e k s ≡ false)
     leads_or = go (leads_at P t e k s) refl

@@ -31,14 +31,14 @@ use Rattle.back.specs.declared.End.{End}
 pub record Readable (n cur : ℕ) (g : Shape) (ws : List ℕ) : Type 0 where
   pub few : n ≤ counts
   pub small : Shape-small g
-  pub some : 0 < g.levels
+  pub some : 0 < g.grid.levels
   pub place : cur ≤ place_most
-  pub bounds : Limits count_limit cost_limit g.base g.levels
-  pub list : (k s : ℕ) → k < n → s < g.states → Sound count_limit cost_limit g.base g.levels ws (list_at cur g.states g.levels k s)
+  pub bounds : Limits count_limit cost_limit g.grid.base g.grid.levels
+  pub list : (k s : ℕ) → k < n → s < g.states → Sound count_limit cost_limit g.grid.base g.grid.levels ws (list_at cur g.states g.grid.levels k s)
 
 -- and their values are H
 pub record Reads (n cur : ℕ) (g : Shape) (ws : List ℕ) (H : Table) : Type 0 where
-  pub at : (k s j : ℕ) → k < n → s < g.states → j < g.levels → costs g.base (piece ws (list_at cur g.states g.levels k s) g.levels) j ≡ H k s j
+  pub at : (k s j : ℕ) → k < n → s < g.states → j < g.grid.levels → costs g.grid.base (piece ws (list_at cur g.states g.grid.levels k s) g.grid.levels) j ≡ H k s j
 
 -- the least over the ends in the states below n
 abbrev pub ends_below : Plan → Table → ℕ → ℕ
@@ -46,16 +46,16 @@ ends_below P H n = min_below n (λ (s : ℕ). min_below (width P) (λ (j : ℕ).
 
 -- its value: the cost with its changes, as one number
 abbrev pub end_of : End → ℕ
-end_of r = lex r.value r.changes
+end_of r = low_of r.low
 
 -- the cheapest end in the states below n: fewest changes, then lowest state, then lowest level
 pub record EndTo (P : Plan) (H : Table) (n : ℕ) (r : End) : Type 0 where
   pub is : end_of r ≡ ends_below P H n
   pub state : end_of r < no_cost → r.state < n
-  pub level : end_of r < no_cost → r.level < width P
-  pub met : end_of r < no_cost → end_at P H r.state r.level ≡ end_of r
-  pub lowest : end_of r < no_cost → (s j : ℕ) → s < n → j < width P → end_at P H s j ≡ end_of r → Upto r.state r.level s j
-  pub nowhere : no_cost ≤ end_of r → (r.state ≡ 0) × (r.level ≡ 0)
+  pub level : end_of r < no_cost → r.low.level < width P
+  pub met : end_of r < no_cost → end_at P H r.state r.low.level ≡ end_of r
+  pub lowest : end_of r < no_cost → (s j : ℕ) → s < n → j < width P → end_at P H s j ≡ end_of r → Upto r.state r.low.level s j
+  pub nowhere : no_cost ≤ end_of r → (r.state ≡ 0) × (r.low.level ≡ 0)
 
 -- ---- the model's least
 
@@ -120,7 +120,7 @@ module _ {P : Plan} {H : Table} {s : ℕ} {best : End} (a : EndTo P H s best) wh
     more = min_one_more s (λ (s : ℕ). min_below (width P) (λ (j : ℕ). end_at P H s j)) ∙ ap (min (ends_below P H s)) least_here
 
     -- it is better
-    pub end_better : low_of low < end_of best → EndTo P H (s + 1) (record { value = low.value; changes = low.changes; state = s; level = low.level })
+    pub end_better : low_of low < end_of best → EndTo P H (s + 1) (record { low = low; state = s })
     unfolding width
     end_better h = record {
       is = omega (arith, more, a.is);
@@ -148,7 +148,7 @@ module _ {P : Plan} {H : Table} {s : ℕ} {best : End} (a : EndTo P H s best) wh
       nowhere = a.nowhere;
     }
 
-pub end_none : (P : Plan) (H : Table) → EndTo P H 0 (record { value = none; changes = 0; state = 0; level = 0 })
+pub end_none : (P : Plan) (H : Table) → EndTo P H 0 (record { low = record { rank = record { value = none; changes = 0 }; level = 0 }; state = 0 })
 unfolding min_below
 end_none P H = record {
   is = refl;
@@ -162,7 +162,7 @@ end_none P H = record {
 -- ---- a layer may be read
 
 module _ {P : Plan} {zs : List ℤ} {g : Shape} (a : Task P zs g) {t cur : ℕ} {H : Table} {ws : List ℕ} (l : LayerOf P t H ws cur) where
-  list_here : (k s : ℕ) → k < used_at P t → s < g.states → Curve (t * count_most) (t * reading_most) g.base g.levels ws (list_at cur g.states g.levels k s) (H k s)
+  list_here : (k s : ℕ) → k < used_at P t → s < g.states → Curve (t * count_most) (t * reading_most) g.grid.base g.grid.levels ws (list_at cur g.states g.grid.levels k s) (H k s)
   list_here k s hk hs = to_shape a.shape (rw (a.shape.states, a.shape.levels) (l.list k s hk (omega (arith, a.shape.states))))
 
   pub layer_reads : Reads (used_at P t) cur g ws H

@@ -29,14 +29,14 @@ meets_at value weight want = ltb value no_cost && eqb (value + weight) want
 pub record MayOffer (o : Option Label) (t : ℕ) (x : Edge) (k s j : ℕ) (g : Shape) : Type 0 where
   pub boundary : t < 65536
   pub count : k < counts
-  pub index : j < g.levels
+  pub index : j < g.grid.levels
   pub from : x.from < g.states
   pub gap : gap_of x.kind ≤ 1023
 
 pub record Offers (o : Option Label) (t : ℕ) (x : Edge) (k s j cur : ℕ) (g : Shape) (ws : List ℕ) (r : Low) : Type 0 where
   pub off : leads_from o t x k s ≡ false → no_cost ≤ low_of r
-  pub on : leads_from o t x k s ≡ true → LeastOf (λ (i : ℕ). Permitted x.kind i j) g.levels (costs g.base (piece ws (source o t x k cur g) g.levels)) r
-  pub changes : r.changes ≤ count_limit
+  pub on : leads_from o t x k s ≡ true → LeastOf (λ (i : ℕ). Permitted x.kind i j) g.grid.levels (costs g.grid.base (piece ws (source o t x k cur g) g.grid.levels)) r
+  pub changes : r.rank.changes ≤ count_limit
 
 pub record BackReady (P : Plan) (o : Option Label) (t k s j : ℕ) (g : Shape) : Type 0 where
   pub checked : Checked P
@@ -62,5 +62,5 @@ pub record StepFound (P : Plan) (t : ℕ) (H : Table) (k s j want e i v : ℕ) :
   pub first : (i' : ℕ) → i' < i → Permitted (edge_at P e).kind i' j → H (from_count P t e k) (edge_at P e).from i' ≡ edge_least P t H k j e → ⊥
 
 abbrev pub StepTo : Plan → ℕ → Table → ℕ → ℕ → ℕ → ℕ → Maybe Step → Type 0
-StepTo P t H k s j want (Some b) = StepFound P t H k s j want b.edge b.level (lex b.value b.changes) × (b.changes ≤ count_limit)
+StepTo P t H k s j want (Some b) = StepFound P t H k s j want b.edge b.low.level (low_of b.low) × (b.low.rank.changes ≤ count_limit)
 StepTo P t H k s j want None = (e : ℕ) → e < P.edgecount → Meets P t H k s j want e → ⊥

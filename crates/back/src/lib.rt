@@ -5,7 +5,7 @@
 ghost use Rattle.std.specs.Prelude.{◌≡◌, ℕ, ◌+◌, ◌*◌, ◌/◌, ◌≤◌, ◌<◌};
 ghost use Rattle.integers.specs.Pairs.{unit, lex};
 ghost use Rattle.quadratic.specs.Quad.{count_limit};
-ghost use Rattle.curve.specs.Lows.{low_of};
+ghost use Rattle.curve.specs.Lows.{rank_of};
 ghost use Rattle.model.specs.Held.{Table};
 ghost use Rattle.model.specs.Ends.{point_at};
 ghost use Rattle.model.specs.Labels.{used};
@@ -14,38 +14,31 @@ ghost use Rattle.labels.specs.Boundary.{label_of};
 ghost use Rattle.back.specs.Step.{MayOffer, Offers, meets_at, BackReady, StepTo};
 ghost use Rattle.back.specs.Read.{Readable, Reads, EndTo};
 
-use curve::Low;
+use curve::{Low, Rank};
 use labels::{Boundary, Key};
 use layer::{Problem, Shape};
 use plan::Edge;
 
-// A cost with its changes, and the state and the level's index that have it.
+// A cost with its changes, and the level's index and the state that have it.
 #[derive(Clone, Copy)]
 pub struct End {
-    pub value: u64,
-    pub changes: u64,
+    pub low: Low,
     pub state: usize,
-    pub level: u64,
 }
 
 // The better of the best end so far and the best of state s, which comes later.
 fn better_end(ws: &[u64], problem: &Problem, cur: usize, s: usize, best: End) -> End
-    requires { Readable 1 cur problem.now.shape ws.now × (ShapeOf problem.now.plan.now problem.now.shape × ((s < problem.now.plan.now.states) × (best.changes ≤ count_limit))) }
-    ensures { (result.changes ≤ count_limit) × ((H : Table) → Reads 1 cur problem.now.shape ws.now H → EndTo problem.now.plan.now H s best → EndTo problem.now.plan.now H (s + 1) result) }
+    requires { Readable 1 cur problem.now.shape ws.now × (ShapeOf problem.now.plan.now problem.now.shape × ((s < problem.now.plan.now.states) × (best.low.rank.changes ≤ count_limit))) }
+    ensures { (result.low.rank.changes ≤ count_limit) × ((H : Table) → Reads 1 cur problem.now.shape ws.now H → EndTo problem.now.plan.now H s best → EndTo problem.now.plan.now H (s + 1) result) }
 {
     if !layer::in_set(problem.plan.end, s) {
         return best;
     }
-    let levels = problem.shape.levels;
+    let grid = problem.shape.grid;
     let f = layer::list_at(cur, problem.shape, Key { count: 0, state: s });
-    let low = curve::least_in(ws, f, 0, levels - 1, levels, problem.shape.base);
-    if quadratic::comes_first(low.value, low.changes, best.value, best.changes) {
-        End {
-            value: low.value,
-            changes: low.changes,
-            state: s,
-            level: low.level,
-        }
+    let low = curve::least_in(ws, f, 0, grid.levels - 1, grid);
+    if quadratic::comes_first(low.rank, best.low.rank) {
+        End { low, state: s }
     } else {
         best
     }
@@ -55,13 +48,11 @@ fn better_end(ws: &[u64], problem: &Problem, cur: usize, s: usize, best: End) ->
 // open at the end, so the lists of count 0 are all that is read.
 pub fn best_end(ws: &[u64], problem: &Problem, cur: usize) -> End
     requires { Readable 1 cur problem.now.shape ws.now × ShapeOf problem.now.plan.now problem.now.shape }
-    ensures { (result.changes ≤ count_limit) × ((H : Table) → Reads 1 cur problem.now.shape ws.now H → EndTo problem.now.plan.now H problem.now.plan.now.states result) }
+    ensures { (result.low.rank.changes ≤ count_limit) × ((H : Table) → Reads 1 cur problem.now.shape ws.now H → EndTo problem.now.plan.now H problem.now.plan.now.states result) }
 {
     let mut best = End {
-        value: quadratic::NONE,
-        changes: 0,
+        low: Low::NONE,
         state: 0,
-        level: 0,
     };
     for s in 0..problem.shape.states {
         best = better_end(ws, problem, cur, s, best);
@@ -71,13 +62,13 @@ pub fn best_end(ws: &[u64], problem: &Problem, cur: usize) -> End
 
 // The least cost over the first n counts of what ends in state s at the level with index j.
 pub fn point_cost(ws: &[u64], cur: usize, g: Shape, n: usize, s: usize, j: u64) -> u64
-    requires { Readable n cur g ws.now × ((s < g.states) × (j < g.levels)) }
+    requires { Readable n cur g ws.now × ((s < g.states) × (j < g.grid.levels)) }
     ensures { (H : Table) → Reads n cur g ws.now H → result ≡ point_at n H s j / unit }
 {
     let mut best = quadratic::NONE;
     for k in 0..n {
         let f = layer::list_at(cur, g, Key { count: k, state: s });
-        let here = curve::value_at(ws, f, j, g.levels, g.base);
+        let here = curve::value_at(ws, f, j, g.grid);
         best = best.min(here.value);
     }
     best
@@ -89,35 +80,31 @@ fn offer_of(ws: &[u64], e: Edge, boundary: Boundary, cur: usize, key: Key, j: u6
     ensures { Offers (label_of boundary.label) boundary.t e key.count key.state j cur g ws.now result }
 {
     if !labels::leads(boundary, e, key) {
-        return Low {
-            value: quadratic::NONE,
-            changes: 0,
-            level: 0,
-        };
+        return Low::NONE;
     }
     let source = Key {
         count: labels::count_before(boundary, e.kind, key.count),
         state: e.from as usize,
     };
     let f = layer::list_at(cur, g, source);
-    edges::least_before(ws, f, e.kind, j, g.levels, g.base)
+    edges::least_before(ws, f, e.kind, j, g.grid)
 }
 
 // A cost there is, which with the penalty is the wanted one, and which has the wanted changes with those of the edge.
-fn meets(low: Low, pen: u64, ch: u64, want: u64, changes: u64) -> bool
-    requires { ((pen ≤ 1152921504606846976) × (ch ≤ 1)) × ((low.changes ≤ count_limit) × (changes ≤ count_limit)) }
-    ensures { result ≡ meets_at (low_of low) (lex pen ch) (lex want changes) }
+fn meets(found: Rank, pen: u64, ch: u64, want: Rank) -> bool
+    requires { ((pen ≤ 1152921504606846976) × (ch ≤ 1)) × ((found.changes ≤ count_limit) × (want.changes ≤ count_limit)) }
+    ensures { result ≡ meets_at (rank_of found) (lex pen ch) (rank_of want) }
 {
-    low.value < quadratic::NONE && low.value + pen == want && low.changes + ch == changes
+    found.value < quadratic::NONE
+        && found.value + pen == want.value
+        && found.changes + ch == want.changes
 }
 
-// The edge and the level's index before a boundary, and the cost there with its changes.
+// The edge before a boundary, and the cost there with its changes and its level's index.
 #[derive(Clone, Copy)]
 pub struct Step {
     pub edge: usize,
-    pub level: u64,
-    pub value: u64,
-    pub changes: u64,
+    pub low: Low,
 }
 
 // The step back over a boundary from a list at index j: the lowest edge whose offer with its penalty and its change is the wanted cost with the wanted
@@ -129,24 +116,18 @@ pub fn step_back(
     cur: usize,
     key: Key,
     j: u64,
-    want: u64,
-    changes: u64,
+    want: Rank,
 ) -> Option<Step>
-    requires { Readable (used (label_of boundary.label)) cur problem.now.shape ws.now × (BackReady problem.now.plan.now (label_of boundary.label) boundary.t key.count key.state j problem.now.shape × (changes ≤ count_limit)) }
-    ensures { (H : Table) → Reads (used (label_of boundary.label)) cur problem.now.shape ws.now H → StepTo problem.now.plan.now boundary.t H key.count key.state j (lex want changes) result }
+    requires { Readable (used (label_of boundary.label)) cur problem.now.shape ws.now × (BackReady problem.now.plan.now (label_of boundary.label) boundary.t key.count key.state j problem.now.shape × (want.changes ≤ count_limit)) }
+    ensures { (H : Table) → Reads (used (label_of boundary.label)) cur problem.now.shape ws.now H → StepTo problem.now.plan.now boundary.t H key.count key.state j (rank_of want) result }
 {
     for i in 0..problem.plan.edgecount {
         let e = coded::edge_in(problem.code, i);
         let low = offer_of(ws, e, boundary, cur, key, j, problem.shape);
         let pen = plan::penalty_of(e.class);
         let ch = labels::change_of(e.kind) as u64;
-        if meets(low, pen, ch, want, changes) {
-            return Some(Step {
-                edge: i,
-                level: low.level,
-                value: low.value,
-                changes: low.changes,
-            });
+        if meets(low.rank, pen, ch, want) {
+            return Some(Step { edge: i, low });
         }
     }
     None

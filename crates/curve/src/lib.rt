@@ -300,6 +300,12 @@ pub struct Low {
 }
 
 impl Low {
+    // What is not there, at the lowest level.
+    pub const NONE: Low = Low {
+        rank: Rank::NONE,
+        level: 0,
+    };
+
     // Where there is no level: more than none.
     pub const NOWHERE: Low = Low {
         rank: Rank {

@@ -172,8 +172,8 @@ module _ {P : Plan} {zs : List ℤ} {t cur : ℕ} {g : Shape} {p : Point} {ws : 
   }
 
   -- the loss as code computed it
-  pub loss_is : (u x : ℕ) → pos u ≡ get_or zs t (pos 0) +ℤ pos 163840 → x ≡ far u (g.base + p.level) * far u (g.base + p.level) → x ≡ loss_at zs t (P.lo +ℤ pos p.level)
-  loss_is u x at e = e ∙ loss_place zs t P.lo u g.base at (base_place a.task) p.level
+  pub loss_is : (u x : ℕ) → pos u ≡ get_or zs t (pos 0) +ℤ pos 163840 → x ≡ far u (g.grid.base + p.level) * far u (g.grid.base + p.level) → x ≡ loss_at zs t (P.lo +ℤ pos p.level)
+  loss_is u x at e = e ∙ loss_place zs t P.lo u g.grid.base at (base_place a.task) p.level
 
   pub loss_fits : (x : ℕ) → x ≡ loss_at zs t (P.lo +ℤ pos p.level) → x ≤ p.value
   loss_fits x e = omega (arith, e, loss_at_lem a.task.ready t a.positive a.more a.here)

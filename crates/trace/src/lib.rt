@@ -77,7 +77,7 @@ pub fn step(
         state: from.state,
     };
     let u = integers::bias(problem.readings[t]);
-    let want = from.value - square_of(u, problem.shape.base + from.level);
+    let want = from.value - square_of(u, problem.shape.grid.base + from.level);
     let Some(found) = back::step_back(
         ws,
         problem,

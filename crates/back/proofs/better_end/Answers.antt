@@ -8,7 +8,7 @@ pub returns-then-not-in_set : goal.returns-then-not-in_set
 returns-then-not-in_set c = (c.requires.1.1.1, λ H r a. end_skipped a (sym c.in_set.ensures ∙ c.if-not-in_set.true))
 
 pub least_in-low-requires-clause-held : goal.least_in-low-requires-clause-held
-least_in-low-requires-clause-held c = (held c.requires.0 0 _ (omega arith) (omega arith) _ c.list_at-f.ensures, c.requires.0.bounds.high)
+least_in-low-requires-clause-held c = held c.requires.0 0 _ (omega arith) (omega arith) _ c.list_at-f.ensures
 
 pub returns-then-comes_first : goal.returns-then-comes_first
 returns-then-comes_first c = (

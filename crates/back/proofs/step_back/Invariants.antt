@@ -1,5 +1,5 @@
 use Rattle.std.proofs.Common.{ℕ, ◌<◌}
-use Rattle.integers.specs.Pairs.{lex}
+use Rattle.curve.specs.Lows.{rank_of}
 use Rattle.model.specs.Held.{Table}
 use Rattle.model.specs.Labels.{used}
 use Rattle.labels.specs.Boundary.{label_of}
@@ -9,4 +9,4 @@ use Rattle.back.proofs.step_back.Given as goal
 
 -- no edge before i meets what is wanted
 abbrev pub invariant-loop-i : goal.invariant-loop-i
-invariant-loop-i l = (H : Table) → Reads (used (label_of l.boundary.label)) l.cur l.problem.shape l.ws H → (e : ℕ) → e < l.i → Meets l.problem.plan.now l.boundary.t H l.key.count l.key.state l.j (lex l.want l.changes) e → ⊥
+invariant-loop-i l = (H : Table) → Reads (used (label_of l.boundary.label)) l.cur l.problem.shape l.ws H → (e : ℕ) → e < l.i → Meets l.problem.plan.now l.boundary.t H l.key.count l.key.state l.j (rank_of l.want) e → ⊥
