@@ -40,51 +40,51 @@ use Rattle.trace.specs.declared.Point.{Point}
 use Rattle.trace.specs.Trace.{value_of, PointAt, node_at, StepMade, StepReady}
 
 module _ {P : Plan} {zs : List ℤ} (R : Ready P zs) (t : ℕ) (ht : suc (suc t) ≤ length zs) {p : Point} (a : PointAt P zs (suc (suc t)) p) where
-  low : table_at P zs (suc (suc t)) p.count p.state p.level < no_cost
+  low : table_at P zs (suc (suc t)) p.key.count p.key.state p.low.level < no_cost
   low = omega (arith, a.is, a.some)
 
   abbrev loss : ℕ
-  loss = loss_at zs (suc t) (P.lo +ℤ pos p.level)
+  loss = loss_at zs (suc t) (P.lo +ℤ pos p.low.level)
 
   abbrev T : Table
   T = table_at P zs (suc t)
 
   abbrev MeetsHere : ℕ → Type 0
-  MeetsHere = MeetsAt P zs R t p.count p.state p.level ht a.count a.state a.level low
+  MeetsHere = MeetsAt P zs R t p.key.count p.key.state p.low.level ht a.count a.state a.level low
 
   -- the loss is part of the cost
-  loss_low : loss ≤ p.value
+  loss_low : loss ≤ p.low.rank.value
   loss_low =
-      let (e, he, m) = some_edge P zs R t p.count p.state p.level ht a.count a.state a.level low in
+      let (e, he, m) = some_edge P zs R t p.key.count p.key.state p.low.level ht a.count a.state a.level low in
       omega (arith, a.is, m.2, a.changes)
 
   module _ (want : ℕ) (w : want + unit * loss ≡ value_of p) where
-    to_model : (e : ℕ) → Meets P (suc t) T p.count p.state p.level want e → MeetsHere e
+    to_model : (e : ℕ) → Meets P (suc t) T p.key.count p.key.state p.low.level want e → MeetsHere e
     to_model e (l, v, q) = (l, v, omega (arith, a.is))
 
-    of_model : (e : ℕ) → MeetsHere e → Meets P (suc t) T p.count p.state p.level want e
+    of_model : (e : ℕ) → MeetsHere e → Meets P (suc t) T p.key.count p.key.state p.low.level want e
     of_model e (l, v, q) = (l, v, omega (arith, a.is))
 
     -- an edge meets the cost
-    never_lost : ((e : ℕ) → e < P.edgecount → Meets P (suc t) T p.count p.state p.level want e → ⊥) → ⊥
+    never_lost : ((e : ℕ) → e < P.edgecount → Meets P (suc t) T p.key.count p.key.state p.low.level want e → ⊥) → ⊥
     never_lost n =
-        let (e, he, m) = some_edge P zs R t p.count p.state p.level ht a.count a.state a.level low in
+        let (e, he, m) = some_edge P zs R t p.key.count p.key.state p.low.level ht a.count a.state a.level low in
         n e he (of_model e m)
 
-    module _ {e i : ℕ} (v c : ℕ) (f : StepFound P (suc t) T p.count p.state p.level want e i (lex v c)) (hc : c ≤ count_limit) where
+    module _ {e i : ℕ} (v c : ℕ) (f : StepFound P (suc t) T p.key.count p.key.state p.low.level want e i (lex v c)) (hc : c ≤ count_limit) where
       abbrev before : Node
-      before = node (from_count P (suc t) e p.count) (edge_at P e).from (P.lo +ℤ pos i)
+      before = node (from_count P (suc t) e p.key.count) (edge_at P e).from (P.lo +ℤ pos i)
 
       way : (n : ℕ) → walk_back P zs n (suc (suc t)) (node_at P p)
-          ≡ cond (joins (edge_at P e)) (walk_back P zs n (suc t) before) (M.run (suc (suc t)) n p.state (P.lo +ℤ pos p.level) e ∷ walk_back P zs (suc t) (suc t) before)
-      way = step_walk P zs R t p.count p.state p.level ht a.count a.state a.level low e f.known (to_model e f.meets)
+          ≡ cond (joins (edge_at P e)) (walk_back P zs n (suc t) before) (M.run (suc (suc t)) n p.key.state (P.lo +ℤ pos p.low.level) e ∷ walk_back P zs (suc t) (suc t) before)
+      way = step_walk P zs R t p.key.count p.key.state p.low.level ht a.count a.state a.level low e f.known (to_model e f.meets)
           (λ e' h m. f.lowest e' h (of_model e' m)) i f.inside f.permitted f.at f.first
 
-      count_low : from_count P (suc t) e p.count < counts
-      count_low = step_count P zs R t p.count p.state p.level ht a.count a.state a.level low e f.known (to_model e f.meets)
+      count_low : from_count P (suc t) e p.key.count < counts
+      count_low = step_count P zs R t p.key.count p.key.state p.low.level ht a.count a.state a.level low e f.known (to_model e f.meets)
           (λ e' h m. f.lowest e' h (of_model e' m)) i f.inside f.permitted f.at f.first
 
-      point_before : (last n : ℕ) → PointAt P zs (suc t) (record { count = from_count P (suc t) e p.count; state = (edge_at P e).from; level = i; value = v; changes = c; last = last; runs = n })
+      point_before : (last n : ℕ) → PointAt P zs (suc t) (record { key = record { count = from_count P (suc t) e p.key.count; state = (edge_at P e).from }; low = record { rank = record { value = v; changes = c }; level = i }; last = last; runs = n })
       point_before last n = record {
         count = count_low;
         state = (R.plan.edge e f.known).from_below;
@@ -96,7 +96,7 @@ module _ {P : Plan} {zs : List ℤ} (R : Ready P zs) (t : ℕ) (ht : suc (suc t)
 
       module _ (lasts : p.last ≤ length zs) {out : List ℤ} where
         -- the run goes on
-        pub joined : joins (edge_at P e) ≡ true → StepMade P zs (suc t) p (record { count = from_count P (suc t) e p.count; state = (edge_at P e).from; level = i; value = v; changes = c; last = p.last; runs = p.runs }) out out
+        pub joined : joins (edge_at P e) ≡ true → StepMade P zs (suc t) p (record { key = record { count = from_count P (suc t) e p.key.count; state = (edge_at P e).from }; low = record { rank = record { value = v; changes = c }; level = i }; last = p.last; runs = p.runs }) out out
         joined j = record {
           here = point_before p.last p.runs;
           last = lasts;
@@ -109,13 +109,13 @@ module _ {P : Plan} {zs : List ℤ} (R : Ready P zs) (t : ℕ) (ht : suc (suc t)
         }
 
         -- the run starts here
-        pub put_out : joins (edge_at P e) ≡ false → {out' : List ℤ} {r : Run} → five_of r ≡ five (M.run (suc (suc t)) p.last p.state (P.lo +ℤ pos p.level) e) → Put p.runs r out out'
-            → StepMade P zs (suc t) p (record { count = from_count P (suc t) e p.count; state = (edge_at P e).from; level = i; value = v; changes = c; last = suc t; runs = p.runs + 1 }) out out'
+        pub put_out : joins (edge_at P e) ≡ false → {out' : List ℤ} {r : Run} → five_of r ≡ five (M.run (suc (suc t)) p.last p.key.state (P.lo +ℤ pos p.low.level) e) → Put p.runs r out out'
+            → StepMade P zs (suc t) p (record { key = record { count = from_count P (suc t) e p.key.count; state = (edge_at P e).from }; low = record { rank = record { value = v; changes = c }; level = i }; last = suc t; runs = p.runs + 1 }) out out'
         put_out j {out'} {r} e5 m = record {
           here = point_before (suc t) (p.runs + 1);
           last = omega arith;
           size = m.size;
-          new = M.run (suc (suc t)) p.last p.state (P.lo +ℤ pos p.level) e ∷ [];
+          new = M.run (suc (suc t)) p.last p.key.state (P.lo +ℤ pos p.low.level) e ∷ [];
           few = omega arith;
           count = omega arith;
           way = way p.last ∙ rw j refl;
@@ -125,25 +125,25 @@ module _ {P : Plan} {zs : List ℤ} (R : Ready P zs) (t : ℕ) (ht : suc (suc t)
 -- ---- the same at any boundary, for the code
 
 module _ {P : Plan} {zs : List ℤ} (R : Ready P zs) where
-  pub loss_at_lem : (t : ℕ) → 1 ≤ t → t < length zs → {p : Point} → PointAt P zs (suc t) p → loss_at zs t (P.lo +ℤ pos p.level) ≤ p.value
+  pub loss_at_lem : (t : ℕ) → 1 ≤ t → t < length zs → {p : Point} → PointAt P zs (suc t) p → loss_at zs t (P.lo +ℤ pos p.low.level) ≤ p.low.rank.value
   loss_at_lem zero h k a = absurd (omega arith)
   loss_at_lem (suc t) h k a = loss_low R t k a
 
-  pub lost_at : (t : ℕ) → 1 ≤ t → t < length zs → {p : Point} → PointAt P zs (suc t) p → (want : ℕ) → want + unit * loss_at zs t (P.lo +ℤ pos p.level) ≡ value_of p
-      → ((e : ℕ) → e < P.edgecount → Meets P t (table_at P zs t) p.count p.state p.level want e → ⊥) → ⊥
+  pub lost_at : (t : ℕ) → 1 ≤ t → t < length zs → {p : Point} → PointAt P zs (suc t) p → (want : ℕ) → want + unit * loss_at zs t (P.lo +ℤ pos p.low.level) ≡ value_of p
+      → ((e : ℕ) → e < P.edgecount → Meets P t (table_at P zs t) p.key.count p.key.state p.low.level want e → ⊥) → ⊥
   lost_at zero h k a want w n = absurd (omega arith)
   lost_at (suc t) h k a want w n = never_lost R t k a want w n
 
-  pub joined_at : (t : ℕ) → 1 ≤ t → t < length zs → {p : Point} → PointAt P zs (suc t) p → (want : ℕ) → want + unit * loss_at zs t (P.lo +ℤ pos p.level) ≡ value_of p → p.last ≤ length zs
-      → {e i v c k s : ℕ} → StepFound P t (table_at P zs t) p.count p.state p.level want e i (lex v c) → c ≤ count_limit → k ≡ from_count P t e p.count → s ≡ (edge_at P e).from → joins (edge_at P e) ≡ true
-      → {out : List ℤ} → StepMade P zs t p (record { count = k; state = s; level = i; value = v; changes = c; last = p.last; runs = p.runs }) out out
+  pub joined_at : (t : ℕ) → 1 ≤ t → t < length zs → {p : Point} → PointAt P zs (suc t) p → (want : ℕ) → want + unit * loss_at zs t (P.lo +ℤ pos p.low.level) ≡ value_of p → p.last ≤ length zs
+      → {e i v c k s : ℕ} → StepFound P t (table_at P zs t) p.key.count p.key.state p.low.level want e i (lex v c) → c ≤ count_limit → k ≡ from_count P t e p.key.count → s ≡ (edge_at P e).from → joins (edge_at P e) ≡ true
+      → {out : List ℤ} → StepMade P zs t p (record { key = record { count = k; state = s }; low = record { rank = record { value = v; changes = c }; level = i }; last = p.last; runs = p.runs }) out out
   joined_at zero h n a want w l f hc ec es j = absurd (omega arith)
   joined_at (suc t) h n a want w l f hc ec es j = rw (ec, es) (joined R t n a want w _ _ f hc l j)
 
-  pub put_at_lem : (t : ℕ) → 1 ≤ t → t < length zs → {p : Point} → PointAt P zs (suc t) p → (want : ℕ) → want + unit * loss_at zs t (P.lo +ℤ pos p.level) ≡ value_of p → p.last ≤ length zs
-      → {e i v c k s : ℕ} → StepFound P t (table_at P zs t) p.count p.state p.level want e i (lex v c) → c ≤ count_limit → k ≡ from_count P t e p.count → s ≡ (edge_at P e).from → joins (edge_at P e) ≡ false
-      → {out out' : List ℤ} {r : Run} → five_of r ≡ five (M.run (suc t) p.last p.state (P.lo +ℤ pos p.level) e) → Put p.runs r out out'
-      → StepMade P zs t p (record { count = k; state = s; level = i; value = v; changes = c; last = t; runs = p.runs + 1 }) out out'
+  pub put_at_lem : (t : ℕ) → 1 ≤ t → t < length zs → {p : Point} → PointAt P zs (suc t) p → (want : ℕ) → want + unit * loss_at zs t (P.lo +ℤ pos p.low.level) ≡ value_of p → p.last ≤ length zs
+      → {e i v c k s : ℕ} → StepFound P t (table_at P zs t) p.key.count p.key.state p.low.level want e i (lex v c) → c ≤ count_limit → k ≡ from_count P t e p.key.count → s ≡ (edge_at P e).from → joins (edge_at P e) ≡ false
+      → {out out' : List ℤ} {r : Run} → five_of r ≡ five (M.run (suc t) p.last p.key.state (P.lo +ℤ pos p.low.level) e) → Put p.runs r out out'
+      → StepMade P zs t p (record { key = record { count = k; state = s }; low = record { rank = record { value = v; changes = c }; level = i }; last = t; runs = p.runs + 1 }) out out'
   put_at_lem zero h n a want w l f hc ec es j e5 m = absurd (omega arith)
   put_at_lem (suc t) h n a want w l f hc ec es j e5 m = rw (ec, es) (put_out R t n a want w _ _ f hc l j e5 m)
 
@@ -161,7 +161,7 @@ module _ {P : Plan} {zs : List ℤ} {t cur : ℕ} {g : Shape} {p : Point} {ws : 
   pub readable : {o : Option Label} → o ≡ label_on P t → Readable (used o) cur g ws
   readable e = subst (λ (x : Option Label). Readable (used x) cur g ws) (sym e) (layer_readable a.task a.layer a.place in_reach)
 
-  pub back_ready : {o : Option Label} → o ≡ label_on P t → BackReady P o t p.count p.state p.level g
+  pub back_ready : {o : Option Label} → o ≡ label_on P t → BackReady P o t p.key.count p.key.state p.low.level g
   back_ready e = record {
     checked = a.task.ready.plan;
     shape = a.task.shape;
@@ -172,13 +172,13 @@ module _ {P : Plan} {zs : List ℤ} {t cur : ℕ} {g : Shape} {p : Point} {ws : 
   }
 
   -- the loss as code computed it
-  pub loss_is : (u x : ℕ) → pos u ≡ get_or zs t (pos 0) +ℤ pos 163840 → x ≡ far u (g.grid.base + p.level) * far u (g.grid.base + p.level) → x ≡ loss_at zs t (P.lo +ℤ pos p.level)
-  loss_is u x at e = e ∙ loss_place zs t P.lo u g.grid.base at (base_place a.task) p.level
+  pub loss_is : (u x : ℕ) → pos u ≡ get_or zs t (pos 0) +ℤ pos 163840 → x ≡ far u (g.grid.base + p.low.level) * far u (g.grid.base + p.low.level) → x ≡ loss_at zs t (P.lo +ℤ pos p.low.level)
+  loss_is u x at e = e ∙ loss_place zs t P.lo u g.grid.base at (base_place a.task) p.low.level
 
-  pub loss_fits : (x : ℕ) → x ≡ loss_at zs t (P.lo +ℤ pos p.level) → x ≤ p.value
+  pub loss_fits : (x : ℕ) → x ≡ loss_at zs t (P.lo +ℤ pos p.low.level) → x ≤ p.low.rank.value
   loss_fits x e = omega (arith, e, loss_at_lem a.task.ready t a.positive a.more a.here)
 
-  pub want_is : (x : ℕ) → x ≡ loss_at zs t (P.lo +ℤ pos p.level) → lex (p.value - x) p.changes + unit * loss_at zs t (P.lo +ℤ pos p.level) ≡ value_of p
+  pub want_is : (x : ℕ) → x ≡ loss_at zs t (P.lo +ℤ pos p.low.level) → lex (p.low.rank.value - x) p.low.rank.changes + unit * loss_at zs t (P.lo +ℤ pos p.low.level) ≡ value_of p
   want_is x e = omega (arith, e, loss_fits x e)
 
   pub reads_here : {o : Option Label} → o ≡ label_on P t → Reads (used o) cur g ws (table_at P zs t)

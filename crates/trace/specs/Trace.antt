@@ -18,19 +18,19 @@ use Rattle.trace.specs.declared.Point.{Point}
 
 -- its cost with its changes, as one number
 abbrev pub value_of : Point → ℕ
-value_of p = lex p.value p.changes
+value_of p = lex p.low.rank.value p.low.rank.changes
 
 -- the point has a cost after t readings
 pub record PointAt (P : Plan) (zs : List ℤ) (t : ℕ) (p : Point) : Type 0 where
-  pub count : p.count < counts
-  pub state : p.state < P.states
-  pub level : p.level < width P
-  pub is : value_of p ≡ table_at P zs t p.count p.state p.level
+  pub count : p.key.count < counts
+  pub state : p.key.state < P.states
+  pub level : p.low.level < width P
+  pub is : value_of p ≡ table_at P zs t p.key.count p.key.state p.low.level
   pub some : value_of p < no_cost
-  pub changes : p.changes ≤ count_limit
+  pub changes : p.low.rank.changes ≤ count_limit
 
 abbrev pub node_at : Plan → Point → Node
-node_at P p = node p.count p.state (P.lo +ℤ pos p.level)
+node_at P p = node p.key.count p.key.state (P.lo +ℤ pos p.low.level)
 
 pub record StepReady (P : Plan) (zs : List ℤ) (t cur : ℕ) (g : Shape) (p : Point) (ws : List ℕ) (out : List ℤ) : Type 0 where
   pub task : Task P zs g

@@ -9,20 +9,18 @@ ghost use Rattle.quadratic.specs.Fine.{far};
 ghost use Rattle.runs.specs.Runs.{five_of};
 ghost use Rattle.trace.specs.Trace.{StepReady, StepMade};
 
+use curve::{Low, Rank};
 use labels::{Boundary, Key};
 use layer::Problem;
 use plan::{Edge, Kind};
 use runs::Run;
 
-// Where the way back stands: count, state, index of the level, and the cost there with its changes; the last reading of the run that is open, and how many
+// Where the way back stands: the list, the index of the level in it and the cost there; the last reading of the run that is open, and how many
 // runs are written.
 #[derive(Clone, Copy)]
 pub struct Point {
-    pub count: usize,
-    pub state: usize,
-    pub level: u64,
-    pub value: u64,
-    pub changes: u64,
+    pub key: Key,
+    pub low: Low,
     pub last: usize,
     pub runs: usize,
 }
@@ -72,39 +70,31 @@ pub fn step(
 {
     let label = labels::label_on(problem.plan, problem.code, t);
     let boundary = Boundary { t, label };
-    let key = Key {
-        count: from.count,
-        state: from.state,
-    };
     let u = integers::bias(problem.readings[t]);
-    let want = from.value - square_of(u, problem.shape.grid.base + from.level);
-    let Some(found) = back::step_back(
-        ws,
-        problem,
-        boundary,
-        cur,
-        key,
-        from.level,
-        want,
-        from.changes,
-    ) else {
+    let level = from.low.level;
+    let loss = square_of(u, problem.shape.grid.base + level);
+    let want = Rank {
+        value: from.low.rank.value - loss,
+        ..from.low.rank
+    };
+    let Some(found) = back::step_back(ws, problem, boundary, cur, from.key, level, want) else {
         return from;
     };
     let e = coded::edge_in(problem.code, found.edge);
-    let before = Point {
-        count: labels::count_before(boundary, e.kind, from.count),
+    let key = Key {
+        count: labels::count_before(boundary, e.kind, from.key.count),
         state: e.from as usize,
-        level: found.level,
-        value: found.value,
-        changes: found.changes,
+    };
+    let before = Point {
+        key,
+        low: found.low,
         ..from
     };
     if joins_run(e) {
         return before;
     }
-    let edge = found.edge;
     let lo = problem.plan.lo;
-    let r = run_of(t + 1, from.last, from.state, lo, from.level, edge);
+    let r = run_of(t + 1, from.last, from.key.state, lo, level, found.edge);
     runs::put_run(out, from.runs, r);
     Point {
         last: t,
