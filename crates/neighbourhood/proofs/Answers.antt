@@ -44,7 +44,7 @@ module _ (P : Plan) (zs : List ℤ) (most : ℕ) (ws out : List ℕ) {n : ℕ} (
   unfolding table_result table_words_after
   answered_early h = filling_early (table_number P (length zs) most) (table_words P most) (suc most) (table_of P zs most) (table_not_16 P (length zs) most) ws out n e h
 
-  module _ (z : n ≡ 0) {g : Shape} (s : ShapeOf P g × ((mag P.lo < 32768) × (mag P.hi < 32768))) {words need : ℕ} (q : words ≡ limit_cell * (g.states * g.levels)) (k : need ≡ words * (most + 1)) where
+  module _ (z : n ≡ 0) {g : Shape} (s : ShapeOf P g × ((mag P.lo < 32768) × (mag P.hi < 32768))) {words need : ℕ} (q : words ≡ limit_cell * (g.states * g.grid.levels)) (k : need ≡ words * (most + 1)) where
     words_are : need ≡ table_words P most
     unfolding table_words
     words_are = k ∙ ap (λ (x : ℕ). x * (most + 1)) (need_is (checked_of P (length zs) most e z) s.0 words q)

@@ -46,23 +46,23 @@ blank_more {L} {q} {ws} {ws'} {ws''} m room w = record {
     last : (p A B base : ℕ) → p ≡ q → Curve A B base L ws'' (p * (4 * L)) (λ (j : ℕ). no_cost)
     last p A B base e = rw e (curve_flat (inl refl) room w)
 
-pub blank_all : {g : Shape} {q : ℕ} {ws ws' : List ℕ} → q ≡ counts * g.states → Blank g.levels q ws ws' → Emptied g ws ws'
+pub blank_all : {g : Shape} {q : ℕ} {ws ws' : List ℕ} → q ≡ counts * g.states → Blank g.grid.levels q ws ws' → Emptied g ws ws'
 unfolding list_at
 blank_all {g} {q} {ws} {ws'} e m = record {
-  inside = inside_wider 0 (layer_cell * (g.states * g.levels)) (omega arith) (omega (arith, ap (λ (x : ℕ). x * (4 * g.levels)) e)) m.inside;
+  inside = inside_wider 0 (layer_cell * (g.states * g.grid.levels)) (omega arith) (omega (arith, ap (λ (x : ℕ). x * (4 * g.grid.levels)) e)) m.inside;
   list = λ k s A B base hk hs.
-      let z : (k * g.states + s) * (4 * g.levels) ≡ 0 + (k * g.states + s) * (4 * g.levels) = omega arith in
-      subst (λ (x : ℕ). Curve A B base g.levels ws' x (λ (j : ℕ). no_cost)) z (m.list (k * g.states + s) A B base (omega (arith, mul-le-mul_right g.states hk)));
+      let z : (k * g.states + s) * (4 * g.grid.levels) ≡ 0 + (k * g.states + s) * (4 * g.grid.levels) = omega arith in
+      subst (λ (x : ℕ). Curve A B base g.grid.levels ws' x (λ (j : ℕ). no_cost)) z (m.list (k * g.states + s) A B base (omega (arith, mul-le-mul_right g.states hk)));
 }
 
 -- slot 0 lies within the words that the table needs
-slot_fits : {P : Plan} {zs : List ℤ} {most : ℕ} {g : Shape} {ws : List ℕ} → Ground P zs most g ws → layer_cell * (g.states * g.levels) ≤ table_limit P most
+slot_fits : {P : Plan} {zs : List ℤ} {most : ℕ} {g : Shape} {ws : List ℕ} → Ground P zs most g ws → layer_cell * (g.states * g.grid.levels) ≤ table_limit P most
 slot_fits {P} {g = g} a = omega (arith, temps_fit a, same)
   where
-    same : layer_cell * (g.states * g.levels) ≡ layer_words P
-    same = ap (λ (x : ℕ). layer_cell * (x * g.levels)) a.task.shape.states ∙ ap (λ (x : ℕ). layer_cell * (P.states * x)) a.task.shape.levels
+    same : layer_cell * (g.states * g.grid.levels) ≡ layer_words P
+    same = ap (λ (x : ℕ). layer_cell * (x * g.grid.levels)) a.task.shape.states ∙ ap (λ (x : ℕ). layer_cell * (P.states * x)) a.task.shape.levels
 
-pub empty_ready : {P : Plan} {zs : List ℤ} {most : ℕ} {g : Shape} {ws : List ℕ} → Ground P zs most g ws → Shape-small g × (layer_cell * (g.states * g.levels) ≤ length ws)
+pub empty_ready : {P : Plan} {zs : List ℤ} {most : ℕ} {g : Shape} {ws : List ℕ} → Ground P zs most g ws → Shape-small g × (layer_cell * (g.states * g.grid.levels) ≤ length ws)
 empty_ready a = (shape_small a.task, omega (arith, slot_fits a, a.room))
 
 module _ {P : Plan} {zs : List ℤ} {most : ℕ} {g : Shape} {ws ws' : List ℕ} (a : Ground P zs most g ws) (m : Emptied g ws ws') where
@@ -76,14 +76,14 @@ module _ {P : Plan} {zs : List ℤ} {most : ℕ} {g : Shape} {ws ws' : List ℕ}
   empty_layer t = record {
     list = λ k s hk hs.
         of_shape a.task.shape
-        (subst (λ (x : ℕ). Curve (t * count_most) (t * reading_most) g.base g.levels ws' x (λ (j : ℕ). no_cost)) (place k s)
-        (m.list k s _ _ g.base (omega (arith, used_most (label_on P t))) (omega (arith, a.task.shape.states))));
+        (subst (λ (x : ℕ). Curve (t * count_most) (t * reading_most) g.grid.base g.grid.levels ws' x (λ (j : ℕ). no_cost)) (place k s)
+        (m.list k s _ _ g.grid.base (omega (arith, used_most (label_on P t))) (omega (arith, a.task.shape.states))));
   }
     where
-      place : (k s : ℕ) → list_at 0 g.states g.levels k s ≡ list_at (place_of P 0) P.states (width P) k s
+      place : (k s : ℕ) → list_at 0 g.states g.grid.levels k s ≡ list_at (place_of P 0) P.states (width P) k s
       place k s =
           let z : 0 ≡ place_of P 0 = omega arith in
-          ap (λ (x : ℕ). list_at 0 x g.levels k s) a.task.shape.states ∙ ap (λ (x : ℕ). list_at 0 P.states x k s) a.task.shape.levels ∙ ap (λ (x : ℕ). list_at x P.states (width P) k s) z
+          ap (λ (x : ℕ). list_at 0 x g.grid.levels k s) a.task.shape.states ∙ ap (λ (x : ℕ). list_at 0 P.states x k s) a.task.shape.levels ∙ ap (λ (x : ℕ). list_at x P.states (width P) k s) z
 
   pub start_ready : {o f : ℕ} → o ≡ place_of P 1 → f ≡ place_of P (2 * most + 3) → StartReady P zs o f g ws'
   start_ready e k = rw (e, k) (record {

@@ -89,10 +89,10 @@ module _ {P : Plan} {zs : List ℤ} {most : ℕ} {g : Shape} {ws : List ℕ} (a 
   free_low = let h : 2 * most + 3 ≤ 67 = omega (arith, a.few) in let k : layer_words P ≤ layer_cell * 8192 = omega (arith, area_low) in omega (arith, mul-le-mul h k)
 
   -- the place that code computes
-  pub place_is : (n : ℕ) {r : ℕ} → (r ≡ n * (layer_cell * (g.states * g.levels))) × (r ≤ place_most) → r ≡ place_of P n
-  place_is n h = h.0 ∙ ap (λ (x : ℕ). n * (layer_cell * (x * g.levels))) a.task.shape.states ∙ ap (λ (x : ℕ). n * (layer_cell * (P.states * x))) a.task.shape.levels
+  pub place_is : (n : ℕ) {r : ℕ} → (r ≡ n * (layer_cell * (g.states * g.grid.levels))) × (r ≤ place_most) → r ≡ place_of P n
+  place_is n h = h.0 ∙ ap (λ (x : ℕ). n * (layer_cell * (x * g.grid.levels))) a.task.shape.states ∙ ap (λ (x : ℕ). n * (layer_cell * (P.states * x))) a.task.shape.levels
 
-  pub slot_place : (b i t : ℕ) {x r : ℕ} → x ≡ slot_of b i t → (r ≡ x * (layer_cell * (g.states * g.levels))) × (r ≤ place_most) → r ≡ place_of P (slot_of b i t)
+  pub slot_place : (b i t : ℕ) {x r : ℕ} → x ≡ slot_of b i t → (r ≡ x * (layer_cell * (g.states * g.grid.levels))) × (r ≤ place_most) → r ≡ place_of P (slot_of b i t)
   slot_place b i t {x} e h = place_is x h ∙ ap (place_of P) e
 
   -- a slot lies below what is free

@@ -47,8 +47,8 @@ nothing k s j = no_cost
 
 -- a layer of them stands at 0, whatever it is the layer of
 pub record Emptied (g : Shape) (ws ws' : List ℕ) : Type 0 where
-  pub inside : Inside 0 (layer_cell * (g.states * g.levels)) ws ws'
-  pub list : (k s A B base : ℕ) → k < counts → s < g.states → Curve A B base g.levels ws' (list_at 0 g.states g.levels k s) (λ (j : ℕ). no_cost)
+  pub inside : Inside 0 (layer_cell * (g.states * g.grid.levels)) ws ws'
+  pub list : (k s A B base : ℕ) → k < counts → s < g.states → Curve A B base g.grid.levels ws' (list_at 0 g.states g.grid.levels k s) (λ (j : ℕ). no_cost)
 
 -- the slots after t readings, in the bank after b layers
 pub record Slots (P : Plan) (zs : List ℤ) (most t b : ℕ) (ws : List ℕ) : Type 0 where

@@ -34,9 +34,9 @@ const NO_COST: u64 = 18446744073709551615;
 // The place that comes after n layers.
 fn place_of(g: Shape, n: usize) -> usize
     requires { Shape-small g × (n ≤ slots_most) }
-    ensures { (result ≡ n * (layer_cell * (g.states * g.levels))) × (result ≤ place_most) }
+    ensures { (result ≡ n * (layer_cell * (g.states * g.grid.levels))) × (result ≤ place_most) }
 {
-    n * (layer::LAYER_WORDS * (g.states * (g.levels as usize)))
+    n * (layer::LAYER_WORDS * (g.states * (g.grid.levels as usize)))
 }
 
 // How many slots after slot 0 have segmentations after t readings: no segmentation has as many changes as readings.
@@ -58,10 +58,10 @@ fn slot_of(b: usize, i: usize, t: usize) -> usize
 
 // Slot 0: a layer in which nothing is reached.
 fn put_nothing(ws: &mut [u64], g: Shape)
-    requires { Shape-small g × (layer_cell * (g.states * g.levels) ≤ length ws.old) }
+    requires { Shape-small g × (layer_cell * (g.states * g.grid.levels) ≤ length ws.old) }
     ensures { Emptied g ws.old ws.new }
 {
-    let levels = g.levels;
+    let levels = g.grid.levels;
     let size = 4 * (levels as usize);
     let n = labels::COUNTS * g.states;
     for q in 0..n {

@@ -63,27 +63,27 @@ module _ (P : Plan) (zs : List ℤ) (s : ℕ) (m : ℤ) {g : Shape} {ws : List �
   on_grid_lem = grid_index P m (accepted_point P (length zs) s m a.accepts).level
 
   module _ (v : ℕ) (ev : pos v ≡ m +ℤ pos 163840) where
-    place_is : v ≡ g.base + above P.lo m
+    place_is : v ≡ g.grid.base + above P.lo m
     place_is =
         omega (arith, eq_n (nz v) (iz m ⊕ nz 163840) ev, eq_n (nz (base_of P)) (iz P.lo ⊕ nz 163840) (lowest_place_lem task), eq_n (iz P.lo ⊕ nz (above P.lo m)) (iz m) on_grid_lem.1, task.shape.base)
 
-    pub place_high : g.base ≤ v
+    pub place_high : g.grid.base ≤ v
     place_high = omega (arith, place_is)
 
-    pub index_is : v - g.base ≡ above P.lo m
+    pub index_is : v - g.grid.base ≡ above P.lo m
     index_is = omega (arith, place_is)
 
     module _ {T ws' : List ℕ} {w : Walk} (walked : Walked P zs (length zs) T ws ws' w) where
       layer_now : Layer P zs (length zs) ws' w.cur
       layer_now = subst (λ (x : ℕ). Layer P zs x ws' w.cur) walked.time walked.at.layer
 
-      pub may_ask : {n : ℕ} → n ≡ used_at P (length zs) → Readable n w.cur g ws' × ((s < g.states) × (v - g.base < g.levels))
+      pub may_ask : {n : ℕ} → n ≡ used_at P (length zs) → Readable n w.cur g ws' × ((s < g.states) × (v - g.grid.base < g.grid.levels))
       may_ask e = (
         subst (λ (x : ℕ). Readable x w.cur g ws') (sym e) (layer_readable task layer_now (place_low task walked.at) task.ready.few_readings),
         (omega (arith, (accepted_point P (length zs) s m a.accepts).state, task.shape.states), omega (arith, index_is, on_grid_lem.0, task.shape.levels)),
       )
 
-      module _ {n c : ℕ} (en : n ≡ used_at P (length zs)) (f : (H : Table) → Reads n w.cur g ws' H → c ≡ point_at n H s (v - g.base) / unit) where
+      module _ {n c : ℕ} (en : n ≡ used_at P (length zs)) (f : (H : Table) → Reads n w.cur g ws' H → c ≡ point_at n H s (v - g.grid.base) / unit) where
         abbrev last_table : Table
         last_table = table_at P zs (length zs)
 

@@ -1,5 +1,6 @@
 -- The shape of a plan, from the places of its lowest and highest level. Assumes nothing.
-use mathlib.Core.Path.{◌≡◌, refl, ap}
+use Rattle.curve.specs.declared.levels.Grid.{Grid}
+use mathlib.Core.Path.{◌∙◌, ◌≡◌, refl, ap}
 use Prim.Native.Nat.{ℕ, ◌+◌, ◌-◌, ◌<◌, ◌^◌}
 use native.Mathlib.Omega.{arith}
 use lib.IntN.{ℤ, pos, nat_abs, ◌+ℤ◌}
@@ -28,6 +29,6 @@ module _ {P : Plan} (c : Checked P) (base top : ℕ) (eb : pos base ≡ P.lo +�
   unfolding base_of
   base_is = ap nat_abs eb
 
-  pub shape_is : ShapeOf P (record { states = P.states; levels = top - base + 1; base = base })
+  pub shape_is : (g : Grid) → g.levels ≡ top - base + 1 → g.base ≡ base → ShapeOf P (record { states = P.states; grid = g })
   unfolding width
-  shape_is = record { states = refl; levels = omega (arith, top_is); base = base_is }
+  shape_is g l b = record { states = refl; levels = omega (arith, top_is); base = b ∙ base_is }

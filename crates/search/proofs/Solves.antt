@@ -59,7 +59,7 @@ module _ {P : Plan} {zs : List ℤ} {g : Shape} {ws T ws' : List ℕ} {w : Walk}
   pub may_read : Readable 1 w.cur g ws' × ShapeOf P g
   may_read = (readable_fewer (used_some (label_on P (length zs))) (layer_readable a.task layer_now (place_low a.task m.at) a.task.ready.few_readings), a.task.shape)
 
-  pub reaches : {e : End} → (e.changes ≤ count_limit) × ((H : Table) → Reads 1 w.cur g ws' H → EndTo P H P.states e) → Reaches P zs T ws ws' (record { walk = w; end = e })
+  pub reaches : {e : End} → (e.low.rank.changes ≤ count_limit) × ((H : Table) → Reads 1 w.cur g ws' H → EndTo P H P.states e) → Reaches P zs T ws ws' (record { walk = w; end = e })
   reaches (h, f) = record { walked = m; changes = h; ends = f (table_at P zs (length zs)) (reads_fewer (used_some (label_on P (length zs))) (layer_reads a.task layer_now)) }
 
 module _ {P : Plan} {zs : List ℤ} {g : Shape} {ws : List ℕ} {out : List ℤ} (a : Solvable P zs g ws out) {T ws' : List ℕ} {r : Ended} (m : Reaches P zs T ws ws' r) where
@@ -69,14 +69,14 @@ module _ {P : Plan} {zs : List ℤ} {g : Shape} {ws : List ℕ} {out : List ℤ}
   abbrev e : End
   e = r.end
 
-  pub none_found : none ≤ e.value → Solved P zs (Refused 16) ws ws' out out
+  pub none_found : none ≤ e.low.rank.value → Solved P zs (Refused 16) ws ws' out out
   none_found h =
       let q = cheapest_none a.accepts a.space m h in
       record { answer = ap found_of (sym q); runs = ap (λ (r : Result). runs_after r out) (sym q); looks = ap looked q; inside = m.walked.inside }
 
-  module _ (low : e.value < none) where
+  module _ (low : e.low.rank.value < none) where
     abbrev from : Point
-    from = record { count = 0; state = e.state; level = e.level; value = e.value; changes = e.changes; last = length zs; runs = 0 }
+    from = record { key = record { count = 0; state = e.state }; low = e.low; last = length zs; runs = 0 }
 
     pub way_ready : WayReady P zs g r.walk from T ws' out
     way_ready = record {
@@ -91,23 +91,23 @@ module _ {P : Plan} {zs : List ℤ} {g : Shape} {ws : List ℕ} {out : List ℤ}
     }
 
     module _ {p : Point} {ws'' : List ℕ} {out' : List ℤ} (v : WayTo P zs 0 from p ws' ws'' out out') where
-      pub runs_ready : (p.state < 8) × ((p.level < 1024) × ((p.last ≤ 4096) × ((p.runs < 4096) × (5 * p.runs + 5 ≤ length out'))))
+      pub runs_ready : (p.key.state < 8) × ((p.low.level < 1024) × ((p.last ≤ 4096) × ((p.runs < 4096) × (5 * p.runs + 5 ≤ length out'))))
       runs_ready =
           (omega (arith, v.here.state, task.ready.plan.few_states), (omega (arith, v.here.level, task.ready.plan.narrow), (omega (arith, v.last, task.ready.few_readings), (omega (arith, v.few, task.ready.few_readings), omega (arith, v.few, a.room, v.size)))))
 
       -- all runs, first to last
       abbrev all : List M.Run
-      all = reverse (v.done ++ (M.run 1 p.last p.state (P.lo +ℤ pos p.level) 255 ∷ []))
+      all = reverse (v.done ++ (M.run 1 p.last p.key.state (P.lo +ℤ pos p.low.level) 255 ∷ []))
 
-      answer_is : result_of P zs whole ≡ found e.value (numbers all)
+      answer_is : result_of P zs whole ≡ found e.low.rank.value (numbers all)
       answer_is =
           cheapest_some a.accepts a.space m low
-          ∙ ap (λ (x : List M.Run). found e.value (numbers (reverse x))) (v.way ∙ ap (λ (x : List M.Run). v.done ++ x) (walk_first P zs p.last (node_at P p)))
+          ∙ ap (λ (x : List M.Run). found e.low.rank.value (numbers (reverse x))) (v.way ∙ ap (λ (x : List M.Run). v.done ++ x) (walk_first P zs p.last (node_at P p)))
 
       all_length : length all ≡ p.runs + 1
-      all_length = length-reverse (v.done ++ (M.run 1 p.last p.state (P.lo +ℤ pos p.level) 255 ∷ [])) ∙ omega (arith, length-append v.done (M.run 1 p.last p.state (P.lo +ℤ pos p.level) 255 ∷ []), v.count)
+      all_length = length-reverse (v.done ++ (M.run 1 p.last p.key.state (P.lo +ℤ pos p.low.level) 255 ∷ [])) ∙ omega (arith, length-append v.done (M.run 1 p.last p.key.state (P.lo +ℤ pos p.low.level) 255 ∷ []), v.count)
 
-      pub solved : {n : ℕ} {out'' : List ℤ} → Finished P p n out' out'' → Solved P zs (Segmentation e.value n) ws ws'' out out''
+      pub solved : {n : ℕ} {out'' : List ℤ} → Finished P p n out' out'' → Solved P zs (Segmentation e.low.rank.value n) ws ws'' out out''
       solved {n} {out''} d = record {
         answer = count_is ∙ ap found_of (sym answer_is);
         runs = holds_is all out out'' (omega (arith, all_length, v.few, a.room)) (d.holds v.done out v.count v.holds) ∙ ap (λ (r : Result). runs_after r out) (sym answer_is);
@@ -115,7 +115,7 @@ module _ {P : Plan} {zs : List ℤ} {g : Shape} {ws : List ℕ} {out : List ℤ}
         inside = inside_then m.walked.inside v.inside;
       }
         where
-          count_is : Segmentation e.value n ≡ Segmentation e.value (length (numbers all) / 5)
+          count_is : Segmentation e.low.rank.value n ≡ Segmentation e.low.rank.value (length (numbers all) / 5)
           count_is =
               let q : n ≡ length (numbers all) / 5 = d.count ∙ sym all_length ∙ sym (five_over (length all)) ∙ ap (λ (x : ℕ). x / 5) (sym (numbers_length all)) in
               rw (← q) refl
@@ -126,9 +126,9 @@ module _ {P : Plan} {g : Shape} (c : Checked P) (e : ShapeOf P g) where
   pub small_of : Shape-small g
   small_of = record { states = omega (arith, e.states, c.few_states); levels = omega (arith, e.levels, c.narrow) }
 
-  pub need_is : (n : ℕ) → n ≡ limit_cell * (g.states * g.levels) → n ≡ work_words P
+  pub need_is : (n : ℕ) → n ≡ limit_cell * (g.states * g.grid.levels) → n ≡ work_words P
   unfolding work_words
-  need_is n q = q ∙ ap (λ (x : ℕ). limit_cell * (x * g.levels)) e.states ∙ ap (λ (x : ℕ). limit_cell * (P.states * x)) e.levels
+  need_is n q = q ∙ ap (λ (x : ℕ). limit_cell * (x * g.grid.levels)) e.states ∙ ap (λ (x : ℕ). limit_cell * (P.states * x)) e.levels
 
 module _ (P : Plan) (zs : List ℤ) (n : ℕ) (en : n ≡ search_number P (length zs)) (z : n ≡ 0) where
   pub accepts : search_number P (length zs) ≡ 0

@@ -87,11 +87,11 @@ module _ {P : Plan} {zs : List ℤ} {g : Shape} {w₀ : Walk} {p₀ : Point} {T�
 
 -- ---- the first run
 
-pub finished : {P : Plan} {p : Point} {out w out' : List ℤ} {r : Run} → five_of r ≡ five (M.run 1 p.last p.state (P.lo +ℤ pos p.level) 255) → Put p.runs r out w → Reversed (p.runs + 1) w out' → Finished P p (p.runs + 1) out out'
+pub finished : {P : Plan} {p : Point} {out w out' : List ℤ} {r : Run} → five_of r ≡ five (M.run 1 p.last p.key.state (P.lo +ℤ pos p.low.level) 255) → Put p.runs r out w → Reversed (p.runs + 1) w out' → Finished P p (p.runs + 1) out out'
 finished {P} {p} {out} {w} {out'} {r} e m v = record {
   count = refl;
   size = v.size ∙ m.size;
-  holds = λ rs l₀ c h. holds_reversed (rs ++ (M.run 1 p.last p.state (P.lo +ℤ pos p.level) 255 ∷ [])) l₀ w out' (p.runs + 1) (omega (arith, c, length-append rs (M.run 1 p.last p.state (P.lo +ℤ pos p.level) 255 ∷ []))) (holds_put rs l₀ out w p.runs r _ c e h m) v;
+  holds = λ rs l₀ c h. holds_reversed (rs ++ (M.run 1 p.last p.key.state (P.lo +ℤ pos p.low.level) 255 ∷ [])) l₀ w out' (p.runs + 1) (omega (arith, c, length-append rs (M.run 1 p.last p.key.state (P.lo +ℤ pos p.low.level) 255 ∷ []))) (holds_put rs l₀ out w p.runs r _ c e h m) v;
 }
 
 pub way_end : {P : Plan} {zs : List ℤ} {t u : ℕ} {p₀ p : Point} {ws ws' : List ℕ} {out out' : List ℤ} → t ≡ u → WayTo P zs t p₀ p ws ws' out out' → WayTo P zs u p₀ p ws ws' out out'

@@ -37,4 +37,4 @@ pub record WayTo (P : Plan) (zs : List ℤ) (t : ℕ) (p₀ p : Point) (ws ws' :
 pub record Finished (P : Plan) (p : Point) (n : ℕ) (out out' : List ℤ) : Type 0 where
   pub count : n ≡ p.runs + 1
   pub size : length out' ≡ length out
-  pub holds : (rs : List M.Run) (l₀ : List ℤ) → p.runs ≡ length rs → Holds rs l₀ out → Holds (reverse (rs ++ (M.run 1 p.last p.state (P.lo +ℤ pos p.level) 255 ∷ []))) l₀ out'
+  pub holds : (rs : List M.Run) (l₀ : List ℤ) → p.runs ≡ length rs → Holds rs l₀ out → Holds (reverse (rs ++ (M.run 1 p.last p.key.state (P.lo +ℤ pos p.low.level) 255 ∷ []))) l₀ out'

@@ -38,7 +38,7 @@ module _ (P : Plan) (zs : List ℤ) (w : ℕ) (ws out : List ℕ) {n : ℕ} (e :
   unfolding window_result window_words
   answered_early h = filling_early (window_number P (length zs) w) (work_words P) (starts (length zs) w) (windows_of P zs w) (window_not_16 P (length zs) w) ws out n e h
 
-  module _ (z : n ≡ 0) {g : Shape} (s : ShapeOf P g × ((mag P.lo < 32768) × (mag P.hi < 32768))) {need : ℕ} (q : need ≡ limit_cell * (g.states * g.levels)) where
+  module _ (z : n ≡ 0) {g : Shape} (s : ShapeOf P g × ((mag P.lo < 32768) × (mag P.hi < 32768))) {need : ℕ} (q : need ≡ limit_cell * (g.states * g.grid.levels)) where
     words_are : need ≡ work_words P
     words_are = need_is (accepts P (length zs) w e z).plan s.0 need q
 
