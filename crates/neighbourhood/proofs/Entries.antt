@@ -46,18 +46,18 @@ use Rattle.neighbourhood.proofs.Slots.{slot_layer}
 -- ---- one entry
 
 -- the cheapest end of a layer as an entry
-module _ {P : Plan} {H : Table} {r : End} (few-changes : r.changes ≤ count_limit) (m : EndTo P H P.states r) where
+module _ {P : Plan} {H : Table} {r : End} (few-changes : r.low.rank.changes ≤ count_limit) (m : EndTo P H P.states r) where
   pub least_is : end_of r ≡ least_end_at P H
   unfolding least_end_at
   least_is = m.is
 
-  cost_is : r.value ≡ least_end_at P H / unit
+  cost_is : r.low.rank.value ≡ least_end_at P H / unit
   cost_is = omega (arith, least_is)
 
-  pub entry_cost : r.value < none → r.value ≡ entry_of (reported (least_end_at P H))
+  pub entry_cost : r.low.rank.value < none → r.low.rank.value ≡ entry_of (reported (least_end_at P H))
   entry_cost h = cost_is ∙ ap entry_of (sym (reported_some (least_end_at P H) (omega (arith, least_is))))
 
-  pub entry_none : none ≤ r.value → most_word ≡ entry_of (reported (least_end_at P H))
+  pub entry_none : none ≤ r.low.rank.value → most_word ≡ entry_of (reported (least_end_at P H))
   entry_none h = ap entry_of (sym (reported_none (least_end_at P H) (omega (arith, least_is))))
 
 module _ {P : Plan} {zs : List ℤ} {most : ℕ} {g : Shape} {ws : List ℕ} (a : Ground P zs most g ws) {b : ℕ} (m : Slots P zs most (length zs) b ws) (k : ℕ) (hk : k ≤ most) {o : ℕ} (e : o ≡ place_of P (slot_of b (suc k) (length zs))) where
@@ -115,10 +115,10 @@ module _ {P : Plan} {zs : List ℤ} {most : ℕ} {g : Shape} {ws : List ℕ} (a 
     end_is : end_of r.end ≡ least_end_at P (table_at P zs (length zs))
     end_is = least_is m.changes m.ends
 
-    pub decided : (x : Bool) → x ≡ leb none r.end.value → Decided P zs most x ws ws'
+    pub decided : (x : Bool) → x ≡ leb none r.end.low.rank.value → Decided P zs most x ws ws'
     decided x e = record {
-      none = λ q. table_none_by P zs most a.accepts (table_at P zs (length zs)) last_held (omega (arith, end_is, leb-true none r.end.value (sym e ∙ q)));
-      found = λ q. table_found_by P zs most a.accepts (table_at P zs (length zs)) last_held (omega (arith, end_is, m.changes, leb-false none r.end.value (sym e ∙ q)));
+      none = λ q. table_none_by P zs most a.accepts (table_at P zs (length zs)) last_held (omega (arith, end_is, leb-true none r.end.low.rank.value (sym e ∙ q)));
+      found = λ q. table_found_by P zs most a.accepts (table_at P zs (length zs)) last_held (omega (arith, end_is, m.changes, leb-false none r.end.low.rank.value (sym e ∙ q)));
       inside = inside_wider 0 (table_limit P most) (omega arith) (omega arith) m.walked.inside;
     }
 

@@ -13,7 +13,6 @@ ghost use Rattle.model.specs.Ends.{least_end_at};
 ghost use Rattle.model.specs.Result.{cost_list};
 ghost use Rattle.model.specs.Index.{reported};
 ghost use Rattle.model.specs.Neighbourhood.{entry_of, entries, table_of};
-ghost use Rattle.coded.specs.Coded.{Coded};
 ghost use Rattle.layer.specs.Layer.{Shape-small, ShapeOf, place_most, layer_cell};
 ghost use Rattle.back.specs.Read.{Readable, Reads};
 ghost use Rattle.search.specs.ToldCosts.{filled_told};
@@ -22,7 +21,8 @@ ghost use Rattle.neighbourhood.specs.Neighbourhood.{table_result, table_words_af
 ghost use Rattle.neighbourhood.specs.Slots.{slots_most, slot_of, Emptied, Slots, Ground, Banks, StepTo, ForwardTo};
 ghost use Rattle.neighbourhood.specs.Fill.{Put, Decided, Fillable, FilledTo};
 
-use layer::{Origin, Shape};
+use curve::Rank;
+use layer::{Origin, Problem, Shape};
 use plan::{Plan, Refusal};
 
 // How many entries a table has at most: one for each number of changes from 0 on.
@@ -65,26 +65,16 @@ fn put_nothing(ws: &mut [u64], g: Shape)
     let size = 4 * (levels as usize);
     let n = labels::COUNTS * g.states;
     for q in 0..n {
-        curve::constant(ws, q * size, levels, quadratic::NONE, 0);
+        curve::constant(ws, q * size, levels, Rank::NONE);
     }
 }
 
 // One reading more: the slots after t + 1 readings in the bank after `to` layers, from those after t readings in the bank after `from` layers.
-fn step_slots(
-    ws: &mut [u64],
-    plan: Plan,
-    code: &[u64],
-    readings: &[i16],
-    t: usize,
-    most: usize,
-    from: usize,
-    to: usize,
-    g: Shape,
-)
-    requires ground { Ground plan readings.now most g ws.old × (Banks most from to × ((1 ≤ t) × ((t < length readings.now) × Slots plan readings.now most t from ws.old))) }
-    requires coded { Coded plan code.now }
-    ensures { StepTo plan readings.now most (suc t) to ws.old ws.new }
+fn step_slots(ws: &mut [u64], problem: &Problem, t: usize, most: usize, from: usize, to: usize)
+    requires { Ground problem.now.plan.now problem.now.readings.now most problem.now.shape ws.old × (Banks most from to × ((1 ≤ t) × ((t < length problem.now.readings.now) × Slots problem.now.plan.now problem.now.readings.now most t from ws.old))) }
+    ensures { StepTo problem.now.plan.now problem.now.readings.now most (suc t) to ws.old ws.new }
 {
+    let g = problem.shape;
     let free = place_of(g, 2 * most + 3);
     let last = slots_at(most, t + 1);
     for i in 0..last {
@@ -92,44 +82,36 @@ fn step_slots(
         let stays = place_of(g, slot_of(from, i + 1, t));
         let next = place_of(g, to + (i + 1));
         let origin = Origin { stays, changes };
-        layer::next_layer(ws, plan, code, readings, t, origin, next, free, g);
+        layer::next_layer(ws, problem, t, origin, next, free);
     }
 }
 
 // All readings: the bank that has the slots after the last one.
-fn forward(
-    ws: &mut [u64],
-    plan: Plan,
-    code: &[u64],
-    readings: &[i16],
-    most: usize,
-    g: Shape,
-) -> usize
-    requires ground { Ground plan readings.now most g ws.old }
-    requires coded { Coded plan code.now }
-    ensures { ForwardTo plan readings.now most result ws.old ws.new }
+fn forward(ws: &mut [u64], problem: &Problem, most: usize) -> usize
+    requires { Ground problem.now.plan.now problem.now.readings.now most problem.now.shape ws.old }
+    ensures { ForwardTo problem.now.plan.now problem.now.readings.now most result ws.old ws.new }
 {
+    let g = problem.shape;
     put_nothing(ws, g);
     let first = place_of(g, 1);
     let free = place_of(g, 2 * most + 3);
-    layer::first_layer(ws, plan, code, readings, first, free, g);
-    let n = readings.len();
+    layer::first_layer(ws, problem, first, free);
+    let n = problem.readings.len();
     let mut from = 0;
     let mut to = most + 1;
     for t in 1..n {
-        step_slots(ws, plan, code, readings, t, most, from, to, g);
+        step_slots(ws, problem, t, most, from, to);
         (from, to) = (to, from);
     }
     from
 }
 
 // The least cost of the layer at o in the end set, the largest number where there is none.
-fn entry(ws: &[u64], plan: Plan, o: usize, g: Shape) -> u64
-    requires { Readable 1 o g ws.now × ShapeOf plan g }
-    ensures { (H : Table) → Reads 1 o g ws.now H → result ≡ entry_of (reported (least_end_at plan H)) }
+fn entry(ws: &[u64], problem: &Problem, o: usize) -> u64
+    requires { Readable 1 o problem.now.shape ws.now × ShapeOf problem.now.plan.now problem.now.shape }
+    ensures { (H : Table) → Reads 1 o problem.now.shape ws.now H → result ≡ entry_of (reported (least_end_at problem.now.plan.now H)) }
 {
-    let end = back::best_end(ws, plan, o, g);
-    let least = end.value;
+    let least = back::best_end(ws, problem, o).low.rank.value;
     if least < quadratic::NONE {
         return least;
     }
@@ -137,23 +119,15 @@ fn entry(ws: &[u64], plan: Plan, o: usize, g: Shape) -> u64
 }
 
 // The entries, at the front of a list, and whether one of them is a cost.
-fn put_entries(
-    ws: &[u64],
-    plan: Plan,
-    readings: &[i16],
-    most: usize,
-    bank: usize,
-    g: Shape,
-    list: &mut [u64],
-) -> bool
-    requires { Ground plan readings.now most g ws.now × (Slots plan readings.now most (length readings.now) bank ws.now × ((bank ≤ suc most) × (suc most ≤ length list.old))) }
-    ensures { Put plan readings.now most result list.old list.new }
+fn put_entries(ws: &[u64], problem: &Problem, most: usize, bank: usize, list: &mut [u64]) -> bool
+    requires { Ground problem.now.plan.now problem.now.readings.now most problem.now.shape ws.now × (Slots problem.now.plan.now problem.now.readings.now most (length problem.now.readings.now) bank ws.now × ((bank ≤ suc most) × (suc most ≤ length list.old))) }
+    ensures { Put problem.now.plan.now problem.now.readings.now most result list.old list.new }
 {
-    let n = readings.len();
+    let n = problem.readings.len();
     let mut some = false;
     for k in 0..most + 1 {
-        let o = place_of(g, slot_of(bank, k + 1, n));
-        let cost = entry(ws, plan, o, g);
+        let o = place_of(problem.shape, slot_of(bank, k + 1, n));
+        let cost = entry(ws, problem, o);
         list[k] = cost;
         if cost != NO_COST {
             some = true;
@@ -163,26 +137,17 @@ fn put_entries(
 }
 
 // Whether no segmentation is allowed at all. An entry that is a cost tells that one is; where there is none, the forward half of the search tells.
-fn none_allowed(
-    ws: &mut [u64],
-    plan: Plan,
-    code: &[u64],
-    readings: &[i16],
-    most: usize,
-    g: Shape,
-    some: bool,
-) -> bool
-    requires ground { Ground plan readings.now most g ws.old × (some ≡ true → table_of plan readings.now most ≡ cost_list (entries plan readings.now (suc most))) }
-    requires coded { Coded plan code.now }
-    ensures { Decided plan readings.now most result ws.old ws.new }
+fn none_allowed(ws: &mut [u64], problem: &Problem, most: usize, some: bool) -> bool
+    requires { Ground problem.now.plan.now problem.now.readings.now most problem.now.shape ws.old × (some ≡ true → table_of problem.now.plan.now problem.now.readings.now most ≡ cost_list (entries problem.now.plan.now problem.now.readings.now (suc most))) }
+    ensures { Decided problem.now.plan.now problem.now.readings.now most result ws.old ws.new }
 {
     if some {
         return false;
     }
     let mut table = [0usize; saved::TABLE];
-    let reached = search::cheapest(ws, plan, code, readings, g, &mut table, 0);
-    let end = reached.end;
-    quadratic::NONE <= end.value
+    let reached = search::cheapest(ws, problem, &mut table, 0);
+    let least = reached.end.low.rank.value;
+    quadratic::NONE <= least
 }
 
 // The first n numbers of a list at the front of another.
@@ -208,9 +173,15 @@ fn fill(
     let mut code = [0u64; coded::SIZE];
     let mut list = [0u64; ENTRIES];
     coded::put_plan(plan, &mut code);
-    let bank = forward(ws, plan, &code, readings, most, g);
-    let some = put_entries(ws, plan, readings, most, bank, g, &mut list);
-    if none_allowed(ws, plan, &code, readings, most, g, some) {
+    let problem = Problem {
+        plan: &plan,
+        code: &code,
+        readings,
+        shape: g,
+    };
+    let bank = forward(ws, &problem, most);
+    let some = put_entries(ws, &problem, most, bank, &mut list);
+    if none_allowed(ws, &problem, most, some) {
         return Err(Refusal::NoSegmentation);
     }
     copy_front(&list, most + 1, costs);

@@ -53,10 +53,10 @@ module _ {P : Plan} {zs : List ℤ} {w : ℕ} {g : Shape} {ws out : List ℕ} (f
     part_reached : Reaches P (part_at zs w a) T ws' ws'' r
     part_reached = subst (λ (x : List ℤ). Reaches P x T ws' ws'' r) cut_is m
 
-    pub cut_none : none ≤ r.end.value → result_of P (part_at zs w a) whole ≡ refused 16
+    pub cut_none : none ≤ r.end.low.rank.value → result_of P (part_at zs w a) whole ≡ refused 16
     cut_none q = cheapest_none part_accepts (part_space i) part_reached q
 
-    pub cut_some : r.end.value < none → (ns : List ℤ) × (result_of P (part_at zs w a) whole ≡ found r.end.value ns)
+    pub cut_some : r.end.low.rank.value < none → (ns : List ℤ) × (result_of P (part_at zs w a) whole ≡ found r.end.low.rank.value ns)
     cut_some q = (_, cheapest_some part_accepts (part_space i) part_reached q)
 
 -- ---- the list of costs

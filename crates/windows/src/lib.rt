@@ -2,36 +2,38 @@
 #![tactic(auto)]
 
 ghost use Rattle.std.specs.Prelude.{◌≡◌, length};
-ghost use Rattle.coded.specs.Coded.{Coded};
 ghost use Rattle.saved.specs.Walk.{table_size};
 ghost use Rattle.search.specs.ToldCosts.{filled_told};
 ghost use Rattle.search.specs.Costs.{filled_of, costs_after};
 ghost use Rattle.windows.specs.Windows.{window_result, window_words};
 ghost use Rattle.windows.specs.Fill.{Fillable, FilledTo};
 
-use layer::Shape;
+use layer::{Problem, Shape};
 use plan::{Plan, Refusal};
 
 // The costs of all parts, one after the other. Each part is searched as if it were the record; no layer is saved, since nothing goes back.
 fn each_part(
     ws: &mut [u64],
-    plan: Plan,
-    code: &[u64],
-    record: &[i16],
+    whole: &Problem,
     w: usize,
-    g: Shape,
     table: &mut [usize],
     costs: &mut [u64],
 ) -> Result<usize, Refusal>
-    requires fillable { Fillable plan «record».now w g ws.old costs.old }
-    requires coded { Coded plan code.now × (length table.old ≡ table_size) }
-    ensures { FilledTo plan «record».now w (filled_told result) ws.old ws.new costs.old costs.new }
+    requires fillable { Fillable whole.now.plan.now whole.now.readings.now w whole.now.shape ws.old costs.old }
+    requires table_size { length table.old ≡ table_size }
+    ensures { FilledTo whole.now.plan.now whole.now.readings.now w (filled_told result) ws.old ws.new costs.old costs.new }
 {
-    let last = record.len() - w;
+    let readings = whole.readings;
+    let last = readings.len() - w;
     for a in 0..last + 1 {
-        let reached = search::cheapest(ws, plan, code, &record[a..a + w], g, table, 0);
-        let end = reached.end;
-        let least = end.value;
+        let part = Problem {
+            plan: whole.plan,
+            code: whole.code,
+            readings: &readings[a..a + w],
+            shape: whole.shape,
+        };
+        let reached = search::cheapest(ws, &part, table, 0);
+        let least = reached.end.low.rank.value;
         if quadratic::NONE <= least {
             return Err(Refusal::NoSegmentation);
         }
@@ -55,7 +57,13 @@ fn fill(
     let mut table = [0usize; saved::TABLE];
     let mut code = [0u64; coded::SIZE];
     coded::put_plan(plan, &mut code);
-    each_part(ws, plan, &code, record, w, g, &mut table, costs)
+    let problem = Problem {
+        plan: &plan,
+        code: &code,
+        readings: record,
+        shape: g,
+    };
+    each_part(ws, &problem, w, &mut table, costs)
 }
 
 // The least cost of each part of w readings, in the order of the start.

@@ -10,7 +10,7 @@ pub put_entries-some-requires : goal.put_entries-some-requires
 put_entries-some-requires c = (ground_then c.requires.ground c.forward-bank.ensures.step.inside, (c.forward-bank.ensures.step.slots, (c.forward-bank.ensures.bank, omega (arith, c.requires.ground.few))))
 
 pub none_allowed-requires : goal.none_allowed-requires
-none_allowed-requires c = record { ground = (ground_then c.requires.ground c.forward-bank.ensures.step.inside, c.put_entries-some.ensures.some); coded = c.put_plan.ensures.coded }
+none_allowed-requires c = (ground_then c.requires.ground c.forward-bank.ensures.step.inside, c.put_entries-some.ensures.some)
 
 pub returns-then-none_allowed : goal.returns-then-none_allowed
 returns-then-none_allowed c = filled_16 _ _ _ (inside_then c.forward-bank.ensures.step.inside c.none_allowed.ensures.inside) (c.none_allowed.ensures.none c.if-none_allowed.true)

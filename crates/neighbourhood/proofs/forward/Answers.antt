@@ -11,12 +11,12 @@ use mathlib.Core.Logic.{inl}
 use Rattle.neighbourhood.proofs.forward.Goals as goal
 
 pub loop-t-init : goal.loop-t-init
-loop-t-init c = let s = first_slots c.requires.ground c.put_nothing.ensures (place_is c.requires.ground 1 c.place_of-first.ensures) (place_is c.requires.ground _ c.place_of-free.ensures) c.first_layer.ensures in
+loop-t-init c = let s = first_slots c.requires c.put_nothing.ensures (place_is c.requires 1 c.place_of-first.ensures) (place_is c.requires _ c.place_of-free.ensures) c.first_layer.ensures in
     (inl (refl, omega arith), record { slots = s.slots; inside = inside_refl _ _ _ })
 
 pub loop-t-preserved : goal.loop-t-preserved
 loop-t-preserved c = (other_banks c.loop-t.invariant.0, forward_more (add-one c.loop-t.t) c.loop-t.invariant.1 c.step_slots.ensures)
 
 pub returns : goal.returns
-returns c = let s = first_slots c.requires.ground c.put_nothing.ensures (place_is c.requires.ground 1 c.place_of-first.ensures) (place_is c.requires.ground _ c.place_of-free.ensures) c.first_layer.ensures in
+returns c = let s = first_slots c.requires c.put_nothing.ensures (place_is c.requires 1 c.place_of-first.ensures) (place_is c.requires _ c.place_of-free.ensures) c.first_layer.ensures in
     forward_all (omega arith) c.loop-t.invariant.0 s.inside c.loop-t.invariant.1

@@ -4,4 +4,4 @@ use Prim.Native.Nat.{◌-◌, ◌≤◌}
 use Rattle.neighbourhood.proofs.forward.Given as goal
 
 abbrev pub invariant-loop-t : goal.invariant-loop-t
-invariant-loop-t l = Banks l.most l.from l.to × StepTo l.plan l.readings l.most l.t l.from l.initial.ws l.ws
+invariant-loop-t l = Banks l.most l.from l.to × StepTo l.problem.plan.now l.problem.readings.now l.most l.t l.from l.initial.ws l.ws

@@ -5,10 +5,10 @@ use mathlib.Core.Path.{refl}
 use Rattle.neighbourhood.proofs.none_allowed.Goals as goal
 
 pub returns-then-some : goal.returns-then-some
-returns-then-some c = decided_some c.requires.ground.0 c.requires.ground.1 c.if-some.true
+returns-then-some c = decided_some c.requires.0 c.requires.1 c.if-some.true
 
 pub cheapest-reached-requires : goal.cheapest-reached-requires
-cheapest-reached-requires c = record { workspace = (workspace_of c.requires.ground.0, refl); coded = c.requires.coded; slots_le_most_slots = omega arith }
+cheapest-reached-requires c = record { workspace = (workspace_of c.requires.0, refl); slots_le_most_slots = omega arith }
 
 pub returns : goal.returns
-returns c = decided c.requires.ground.0 c.cheapest-reached.ensures _ refl
+returns c = decided c.requires.0 c.cheapest-reached.ensures _ refl

@@ -16,10 +16,10 @@ pub loop-k-init : goal.loop-k-init
 loop-k-init c = entered_none _ _ _ _
 
 pub place_of-o-requires : goal.place_of-o-requires
-place_of-o-requires c = (shape_small c.requires.0.task, omega (arith, c.slot_of.ensures, slot_low c.args.bank (c.loop-k.k + 1) (length c.args.readings.now), c.requires.1.1.0, c.loop-k-test.true, c.requires.0.few))
+place_of-o-requires c = (shape_small c.requires.0.task, omega (arith, c.slot_of.ensures, slot_low c.args.bank (c.loop-k.k + 1) (length c.args.problem.now.readings.now), c.requires.1.1.0, c.loop-k-test.true, c.requires.0.few))
 
 pub entry-cost-requires : goal.entry-cost-requires
-entry-cost-requires c = may_read c.requires.0 c.requires.1.0 c.loop-k.k (omega (arith, c.loop-k-test.true)) (slot_place c.requires.0 c.args.bank _ (length c.args.readings.now) (c.slot_of.ensures ∙ ap (λ (x : ℕ). slot_of c.args.bank x (length c.args.readings.now)) (add-one c.loop-k.k)) c.place_of-o.ensures) c.place_of-o.ensures.1
+entry-cost-requires c = may_read c.requires.0 c.requires.1.0 c.loop-k.k (omega (arith, c.loop-k-test.true)) (slot_place c.requires.0 c.args.bank _ (length c.args.problem.now.readings.now) (c.slot_of.ensures ∙ ap (λ (x : ℕ). slot_of c.args.bank x (length c.args.problem.now.readings.now)) (add-one c.loop-k.k)) c.place_of-o.ensures) c.place_of-o.ensures.1
 
 pub loop-k-preserved : goal.loop-k-preserved
-loop-k-preserved c = entered_more c.loop-k.invariant (omega (arith, c.loop-k-test.true, c.requires.1.1.1, c.loop-k.invariant.size)) (entry_is c.requires.0 c.requires.1.0 c.loop-k.k (omega (arith, c.loop-k-test.true)) (slot_place c.requires.0 c.args.bank _ (length c.args.readings.now) (c.slot_of.ensures ∙ ap (λ (x : ℕ). slot_of c.args.bank x (length c.args.readings.now)) (add-one c.loop-k.k)) c.place_of-o.ensures) c.entry-cost.ensures) c.requires.0.accepts (elim c.if-cost.branch [ then-cost w ↦ inl (w.if-cost.true, w.some-is) | else-cost w ↦ inr w.some-is ])
+loop-k-preserved c = entered_more c.loop-k.invariant (omega (arith, c.loop-k-test.true, c.requires.1.1.1, c.loop-k.invariant.size)) (entry_is c.requires.0 c.requires.1.0 c.loop-k.k (omega (arith, c.loop-k-test.true)) (slot_place c.requires.0 c.args.bank _ (length c.args.problem.now.readings.now) (c.slot_of.ensures ∙ ap (λ (x : ℕ). slot_of c.args.bank x (length c.args.problem.now.readings.now)) (add-one c.loop-k.k)) c.place_of-o.ensures) c.entry-cost.ensures) c.requires.0.accepts (elim c.if-cost.branch [ then-cost w ↦ inl (w.if-cost.true, w.some-is) | else-cost w ↦ inr w.some-is ])

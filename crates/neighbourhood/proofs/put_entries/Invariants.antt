@@ -4,4 +4,4 @@ use Prim.Native.Nat.{suc, ◌-◌, ◌≤◌}
 use Rattle.neighbourhood.proofs.put_entries.Given as goal
 
 abbrev pub invariant-loop-k : goal.invariant-loop-k
-invariant-loop-k l = Entered l.plan l.readings l.most l.k l.some l.initial.list l.list
+invariant-loop-k l = Entered l.problem.plan.now l.problem.readings.now l.most l.k l.some l.initial.list l.list

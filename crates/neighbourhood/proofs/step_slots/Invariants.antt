@@ -4,4 +4,4 @@ use Prim.Native.Nat.{◌-◌, ◌≤◌}
 use Rattle.neighbourhood.proofs.step_slots.Given as goal
 
 abbrev pub invariant-loop-i : goal.invariant-loop-i
-invariant-loop-i l = Stepping l.plan l.readings l.most l.t l.from l.to l.i l.initial.ws l.ws
+invariant-loop-i l = Stepping l.problem.plan.now l.problem.readings.now l.most l.t l.from l.to l.i l.initial.ws l.ws

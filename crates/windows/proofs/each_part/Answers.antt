@@ -5,10 +5,10 @@ use native.Mathlib.Omega.{arith}
 use Rattle.windows.proofs.each_part.Goals as goal
 
 pub loop-a-init : goal.loop-a-init
-loop-a-init c = (inside_refl _ _ _, (c.requires.coded.1, costed_none))
+loop-a-init c = (inside_refl _ _ _, (c.requires.table_size, costed_none))
 
 pub cheapest-reached-requires : goal.cheapest-reached-requires
-cheapest-reached-requires c = record { workspace = (cut_space c.requires.fillable (omega (arith, c.loop-a-test.true)) c.loop-a.invariant.0, c.loop-a.invariant.1.0); coded = c.requires.coded.0; slots_le_most_slots = omega arith }
+cheapest-reached-requires c = record { workspace = (cut_space c.requires.fillable (omega (arith, c.loop-a-test.true)) c.loop-a.invariant.0, c.loop-a.invariant.1.0); slots_le_most_slots = omega arith }
 
 pub returns-then-least-ge-NONE : goal.returns-then-least-ge-NONE
 returns-then-least-ge-NONE c = filled_none c.requires.fillable c.loop-a.invariant.1.1 (omega (arith, c.loop-a-test.true)) (cut_none c.requires.fillable (omega (arith, c.loop-a-test.true)) c.loop-a.invariant.0 c.cheapest-reached.ensures c.if-least-ge-NONE.true) (inside_then c.loop-a.invariant.0 c.cheapest-reached.ensures.walked.inside)

@@ -7,4 +7,4 @@ use Prim.Native.Nat.{◌+◌, ◌-◌, ◌≤◌}
 use Rattle.windows.proofs.each_part.Given as goal
 
 abbrev pub invariant-loop-a : goal.invariant-loop-a
-invariant-loop-a l = Inside 0 (limit l.plan) l.initial.ws l.ws × ((length l.table ≡ table_size) × Costed l.plan l.record l.w l.a l.initial.costs l.costs)
+invariant-loop-a l = Inside 0 (limit l.whole.plan.now) l.initial.ws l.ws × ((length l.table ≡ table_size) × Costed l.whole.plan.now l.readings l.w l.a l.initial.costs l.costs)
