@@ -2,7 +2,7 @@
 // All functions here are inner ones: their `requires` say where the layer stands.
 #![tactic(auto)]
 
-ghost use Rattle.std.specs.Prelude.{◌≡◌, ℕ, ◌+◌, ◌*◌, ◌/◌, ◌≤◌, ◌<◌};
+ghost use Rattle.std.specs.Prelude.{◌≡◌, ◌+◌, ◌/◌, ◌≤◌, ◌<◌};
 ghost use Rattle.integers.specs.Pairs.{unit, lex};
 ghost use Rattle.quadratic.specs.Quad.{count_limit};
 ghost use Rattle.curve.specs.Lows.{rank_of};

@@ -1,5 +1,5 @@
-// The edges and labels of a plan as numbers in a lent list, one number each, and how many there are. A plan is handed on by value, which copies its
-// 672 bytes at each call; what a search looks up at every reading stands in such a list instead, so that a step reads nothing of the plan itself.
+// The edges and labels of a plan as numbers in a lent list, one number each, and how many there are. What a search looks up at every reading stands in
+// such a list, so that a step reads nothing of the plan itself, which has 672 bytes.
 #![tactic(auto)]
 
 ghost use Rattle.std.specs.Prelude.{◌≡◌, ◌+◌, ◌<◌, length, get_or};

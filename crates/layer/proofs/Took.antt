@@ -14,10 +14,10 @@ use Rattle.model.specs.Index.{edge_min}
 use Rattle.model.proofs.Held.{penalty_most_lem, change_low}
 use Rattle.labels.specs.Boundary.{leads_from}
 use Rattle.curve.specs.Curve.{Curve, curve_as, curve_most}
-use Rattle.edges.specs.Edge.{Ready, Taken, spared_refl}
+use Rattle.edges.specs.Edge.{Taken, spared_refl}
 use Rattle.layer.specs.declared.Shape.{Shape}
 use Rattle.layer.specs.Layer.{list_at}
-use Rattle.layer.specs.Step.{source, offered, MayTake, TookOne}
+use Rattle.layer.specs.Step.{source, offered, TookOne}
 
 module _ (o : Option Label) (t : ℕ) (x : Edge) (k s cur : ℕ) (g : Shape) where
   pub took_not : (ws : List ℕ) (acc next work : ℕ) → leads_from o t x k s ≡ false → TookOne o t x k s cur g ws ws acc next work acc
@@ -43,7 +43,3 @@ module _ (o : Option Label) (t : ℕ) (x : Edge) (k s cur : ℕ) (g : Shape) whe
 -- the code's places are the definition's
 pub source_is : (o : Option Label) (t : ℕ) (x : Edge) (k cur : ℕ) (g : Shape) (c f : ℕ) → c ≡ count_before o t x.kind k → f ≡ list_at cur g.states g.grid.levels c x.from → f ≡ source o t x k cur g
 source_is o t x k cur g c f ec ef = ef ∙ ap (λ (n : ℕ). list_at cur g.states g.grid.levels n x.from) ec
-
-pub ready_is : (o : Option Label) (t : ℕ) (x : Edge) (k s cur : ℕ) (g : Shape) (acc next work : ℕ) (ws : List ℕ) (f pen : ℕ) → leads_from o t x k s ≡ true → f ≡ source o t x k cur g → pen ≡ penalty x.class
-    → MayTake o t x k s cur g acc next work ws → Ready acc next work f pen g.grid.base g.grid.levels ws
-ready_is o t x k s cur g acc next work ws f pen e ef ep m = rw (ef, ep) (m.ready e)

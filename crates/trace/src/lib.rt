@@ -3,7 +3,7 @@
 // All functions here are inner ones: their `requires` say where the layer stands.
 #![tactic(auto)]
 
-ghost use Rattle.std.specs.Prelude.{◌≡◌, [], ◌∷◌, suc, ◌+◌, ◌-◌, ◌*◌, ◌≤◌, ◌<◌, pos, ◌+ℤ◌};
+ghost use Rattle.std.specs.Prelude.{◌≡◌, [], ◌∷◌, ◌+◌, ◌-◌, ◌*◌, ◌≤◌, ◌<◌, pos, ◌+ℤ◌};
 ghost use Rattle.model.specs.Run.{joins};
 ghost use Rattle.quadratic.specs.Fine.{far};
 ghost use Rattle.runs.specs.Runs.{five_of};
