@@ -29,7 +29,7 @@ pub const LAST_REFUSAL: u8 = 20;
 pub fn is_refusal(n: u8) -> bool
     ensures { result ≡ is_refusal n }
 {
-    n != 0 && n <= LAST_REFUSAL
+    (1..=LAST_REFUSAL).contains(&n)
 }
 
 // A run after one that ended at prev, 0 before the first.
