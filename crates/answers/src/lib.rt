@@ -4,7 +4,7 @@
 ghost use Rattle.std.specs.Prelude.{◌≡◌, true, ◌+◌, ◌-◌, ◌*◌, ◌/◌, ◌≤◌, ◌<◌, ◌++◌, length, drop};
 ghost use Rattle.std.proofs.lemmas.List.Edits.{sets};
 ghost use Rattle.fields.specs.Fields.{put_at, field, bytes8};
-ghost use Rattle.answers.specs.Runs.{is_refusal, run_fits, whole, level_fits, last_before, run_ok, runs_ok};
+ghost use Rattle.answers.specs.Runs.{is_refusal, run_fits, whole, whole_at, level_fits, last_before, run_ok, runs_ok};
 ghost use Rattle.answers.specs.Reader.{body_fits, body_last, runs_from, refusal_read, answer_file, read_answer, run_numbers, runs_of, filled};
 ghost use Rattle.answers.specs.Told.{answer_of};
 ghost use Rattle.fields.specs.Put.{written_of};
@@ -29,7 +29,7 @@ pub const LAST_REFUSAL: u8 = 20;
 pub fn is_refusal(n: u8) -> bool
     ensures { result ≡ is_refusal n }
 {
-    n != 0 && n <= LAST_REFUSAL
+    (1..=LAST_REFUSAL).contains(&n)
 }
 
 // A run after one that ended at prev, 0 before the first.
@@ -189,6 +189,14 @@ fn whole(x: i32) -> u32
     u32::try_from(x).unwrap_or(65536)
 }
 
+// Number k of run i as a natural one.
+fn whole_at(runs: &[i32], i: usize, k: usize) -> u32
+    requires { 5 * i + k < length runs.now }
+    ensures { result ≡ whole_at runs.now i k }
+{
+    whole(runs[5 * i + k])
+}
+
 #[tactic(auto, unfolding(crate::specs::Runs::level_fits))]
 fn level_fits(x: i32) -> bool
     ensures { result ≡ level_fits x }
@@ -202,12 +210,11 @@ fn run_ok(runs: &[i32], i: usize, prev: u32) -> bool
     requires { (5 * i + 5 ≤ length runs.now) × (prev ≡ last_before runs.now i) }
     ensures { result ≡ run_ok runs.now i }
 {
-    let first = runs[5 * i];
-    let last = runs[5 * i + 1];
-    let state = runs[5 * i + 2];
-    let level = runs[5 * i + 3];
-    let edge = runs[5 * i + 4];
-    run_fits(prev, whole(first), whole(last), whole(state), whole(edge)) && level_fits(level)
+    let first = whole_at(runs, i, 0);
+    let last = whole_at(runs, i, 1);
+    let state = whole_at(runs, i, 2);
+    let edge = whole_at(runs, i, 4);
+    run_fits(prev, first, last, state, edge) && level_fits(runs[5 * i + 3])
 }
 
 fn runs_ok(runs: &[i32], n: usize) -> bool
@@ -219,7 +226,7 @@ fn runs_ok(runs: &[i32], n: usize) -> bool
         if !run_ok(runs, i, prev) {
             return false;
         }
-        prev = whole(runs[5 * i + 1]);
+        prev = whole_at(runs, i, 1);
     }
     true
 }
@@ -252,11 +259,11 @@ fn put_run_field(out: &mut [u8], at: usize, runs: &[i32], i: usize)
     requires { (5 * i + 5 ≤ length runs.now) × (run_ok runs.now i ≡ true) }
     ensures { out.new ≡ put_at out.old at (run_field runs.now i) }
 {
-    let [first_high, first_low] = (whole(runs[5 * i]) as u16).to_be_bytes();
-    let [last_high, last_low] = (whole(runs[5 * i + 1]) as u16).to_be_bytes();
-    let state = whole(runs[5 * i + 2]) as u8;
+    let [first_high, first_low] = (whole_at(runs, i, 0) as u16).to_be_bytes();
+    let [last_high, last_low] = (whole_at(runs, i, 1) as u16).to_be_bytes();
+    let state = whole_at(runs, i, 2) as u8;
     let level = runs[5 * i + 3] as i16;
-    let edge = whole(runs[5 * i + 4]) as u8;
+    let edge = whole_at(runs, i, 4) as u8;
     let b = [
         0x82,
         0,

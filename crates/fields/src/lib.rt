@@ -71,7 +71,7 @@ fn may_stand(stage: u8, tag: u8) -> bool
     ensures { result ≡ may_stand stage tag }
 {
     let row = row_of(tag);
-    row.first <= stage && stage <= row.last
+    (row.first..=row.last).contains(&stage)
 }
 
 #[tactic(auto, unfolding(crate::specs::Fields::length_fits))]

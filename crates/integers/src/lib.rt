@@ -9,7 +9,7 @@ ghost use Rattle.integers.specs.Bytes.{word, signed16, bits16};
 pub fn bias(x: i16) -> u64
     ensures { (pos result ≡ x +ℤ pos 163840) × ((131072 ≤ result) × (result < 196608)) }
 {
-    ((x as i64) + 163840) as u64
+    (i64::from(x) + 163840) as u64
 }
 
 // n / d rounded down, for every d above zero; 0 for the others.
