@@ -11,6 +11,7 @@ mod list;
 mod run;
 
 use curve::{Grid, Rank};
+use edges::Temps;
 use std::io;
 
 // The lists, and the values that they should have.
@@ -87,17 +88,14 @@ fn test_running(s: &mut Slots, a: usize, b: usize, c: usize, x: u64, grid: Grid)
 fn test_edge(s: &mut Slots, a: usize, b: usize, c: usize, x: u64, grid: Grid) -> u64 {
     let raised = test_raise(s, b, random(random(x)), grid);
     let number = pick(random(x), 5);
-    let Some(r) = run::edge(
-        &mut s.words,
-        word(6),
-        word(7),
-        word(8),
-        word(a),
-        number,
-        direct::gap(x),
-        direct::penalty(x),
-        grid,
-    ) else {
+    let temps = Temps {
+        acc: word(6),
+        next: word(7),
+        work: word(8),
+    };
+    let gap = direct::gap(x);
+    let pen = direct::penalty(x);
+    let Some(r) = run::edge(&mut s.words, temps, word(a), number, gap, pen, grid) else {
         return grid.levels;
     };
     let at = r / 160;

@@ -5,6 +5,7 @@ ghost use Rattle.curve_test.specs.Valid.{Separate};
 
 use crate::{direct, list};
 use curve::{Grid, Low, Rank};
+use edges::Temps;
 use plan::Kind;
 
 // A constant; false where there is no room.
@@ -94,9 +95,10 @@ pub fn operate(
 }
 
 // Whether the temporary lists and the one at f share no word.
-fn in_hand(acc: usize, next: usize, work: usize, f: usize, levels: u64) -> bool
-    ensures { result ≡ true → Separate acc next work f levels }
+fn in_hand(temps: Temps, f: usize, levels: u64) -> bool
+    ensures { result ≡ true → Separate temps.acc temps.next temps.work f levels }
 {
+    let Temps { acc, next, work } = temps;
     list::apart(f, acc, levels)
         && list::apart(f, next, levels)
         && list::apart(f, work, levels)
@@ -120,38 +122,36 @@ fn kind_of(number: u64, gap: u64) -> Kind
     }
 }
 
-// An edge from the list at f into the one at acc: where the least is then, or nothing where it may not be taken.
+// An edge from the list at f into the least so far: where the least is then, or nothing where it may not be taken.
 pub fn edge(
     ws: &mut [u64],
-    acc: usize,
-    next: usize,
-    work: usize,
+    temps: Temps,
     f: usize,
     number: u64,
     gap: u64,
     pen: u64,
     grid: Grid,
 ) -> Option<usize> {
-    if !in_hand(acc, next, work, f, grid.levels) {
+    if !in_hand(temps, f, grid.levels) {
         return None;
     }
-    if !list::valid(ws, acc, grid) {
+    if !list::valid(ws, temps.acc, grid) {
         return None;
     }
     if !list::valid(ws, f, grid) {
         return None;
     }
-    if !list::room(ws, next, grid.levels) {
+    if !list::room(ws, temps.next, grid.levels) {
         return None;
     }
-    if !list::room(ws, work, grid.levels) {
+    if !list::room(ws, temps.work, grid.levels) {
         return None;
     }
     if 1048576 < pen {
         return None;
     }
     let kind = kind_of(number, gap);
-    Some(edges::take_edge(ws, acc, next, work, f, kind, pen, grid))
+    Some(edges::take_edge(ws, temps, f, kind, pen, grid))
 }
 
 // The least on a range, if the list may be read.

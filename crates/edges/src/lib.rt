@@ -4,8 +4,8 @@
 // written has the model's `edge_min`, `raise` and `min` of these. Stay is the list itself, any a constant but at one level, up the running minimum shifted, down
 // the same in the mirror, abs both. `any_into` leaves out what would not be seen in the minimum.
 //
-// Three temporary lists are handed on: acc is the least so far, the next one goes to next, and work is one to work in. They are three
-// numbers, and the place of the new least so far is one: a struct as a result would go through memory.
+// Three temporary lists are handed on (`Temps`): acc is the least so far, the next one goes to next, and work is one to work in. The place of the new least
+// so far is one number, and not the three in their new order: a struct as a result would go through memory.
 //
 // An inner crate: which lists share no word, and their bounds, are `requires` (`Ready`, `Sound`).
 #![tactic(auto)]
@@ -25,24 +25,32 @@ ghost use Rattle.edges.specs.Edge.{Into, Joint, Sound, Ready, Moved, StandsFor, 
 use curve::{Grid, Low, Rank};
 use plan::Kind;
 
+// Where the three temporary lists stand: the least so far, the next one, and one to work in.
+#[derive(Clone, Copy)]
+pub struct Temps {
+    pub acc: usize,
+    pub next: usize,
+    pub work: usize,
+}
+
 // work: at each level the least of f at the other levels. That is the least of all, but at a level that has it: there it is the second least. It
 // is left out where it cannot be seen: where the least so far comes there no later than the least with pen and one change. So it is where a stay
 // from f, no dearer than this edge, was taken before; and one piece is quicker than three.
-fn any_into(ws: &mut [u64], acc: usize, next: usize, work: usize, f: usize, pen: u64, grid: Grid)
-    requires { Ready acc next work f pen grid.base grid.levels ws.old }
-    ensures { StandsFor (edge_min grid.levels Any) pen 1 grid.base grid.levels ws.old ws.new f acc next work }
+fn any_into(ws: &mut [u64], temps: Temps, f: usize, pen: u64, grid: Grid)
+    requires { Ready temps.acc temps.next temps.work f pen grid.base grid.levels ws.old }
+    ensures { StandsFor (edge_min grid.levels Any) pen 1 grid.base grid.levels ws.old ws.new f temps.acc temps.next temps.work }
 {
     let two = curve::two_least(ws, f, grid);
     let Low { rank, level } = two.least;
-    let so_far = curve::value_at(ws, acc, level, grid);
+    let so_far = curve::value_at(ws, temps.acc, level, grid);
     let offer = Rank {
         value: rank.value + pen,
         changes: rank.changes + 1,
     };
     if quadratic::comes_first(offer, so_far) {
-        curve::constant_but(ws, work, grid.levels, two);
+        curve::constant_but(ws, temps.work, grid.levels, two);
     } else {
-        curve::constant(ws, work, grid.levels, rank);
+        curve::constant(ws, temps.work, grid.levels, rank);
     }
 }
 
@@ -79,93 +87,71 @@ fn take(ws: &mut [u64], acc: usize, next: usize, g: usize, pen: u64, ch: u64, gr
 }
 
 // An edge of kind any, at next.
-fn take_any(ws: &mut [u64], acc: usize, next: usize, work: usize, f: usize, pen: u64, grid: Grid)
-    requires { Ready acc next work f pen grid.base grid.levels ws.old }
-    ensures { Taken (edge_min grid.levels Any) pen 1 grid.base grid.levels ws.old ws.new f acc next work next }
+fn take_any(ws: &mut [u64], temps: Temps, f: usize, pen: u64, grid: Grid)
+    requires { Ready temps.acc temps.next temps.work f pen grid.base grid.levels ws.old }
+    ensures { Taken (edge_min grid.levels Any) pen 1 grid.base grid.levels ws.old ws.new f temps.acc temps.next temps.work temps.next }
 {
-    any_into(ws, acc, next, work, f, pen, grid);
-    take(ws, acc, next, work, pen, 1, grid);
+    any_into(ws, temps, f, pen, grid);
+    take(ws, temps.acc, temps.next, temps.work, pen, 1, grid);
 }
 
 // An edge of kind up, at next.
-fn take_up(
-    ws: &mut [u64],
-    acc: usize,
-    next: usize,
-    work: usize,
-    f: usize,
-    gap: u64,
-    pen: u64,
-    grid: Grid,
-)
-    requires { Ready acc next work f pen grid.base grid.levels ws.old × (gap < 1024) }
-    ensures { Taken (up_min gap) pen 1 grid.base grid.levels ws.old ws.new f acc next work next }
+fn take_up(ws: &mut [u64], temps: Temps, f: usize, gap: u64, pen: u64, grid: Grid)
+    requires { Ready temps.acc temps.next temps.work f pen grid.base grid.levels ws.old × (gap < 1024) }
+    ensures { Taken (up_min gap) pen 1 grid.base grid.levels ws.old ws.new f temps.acc temps.next temps.work temps.next }
 {
-    up_into(ws, f, gap, next, work, grid);
-    take(ws, acc, next, work, pen, 1, grid);
+    up_into(ws, f, gap, temps.next, temps.work, grid);
+    take(ws, temps.acc, temps.next, temps.work, pen, 1, grid);
 }
 
 // An edge of kind down, at next.
-fn take_down(
-    ws: &mut [u64],
-    acc: usize,
-    next: usize,
-    work: usize,
-    f: usize,
-    gap: u64,
-    pen: u64,
-    grid: Grid,
-)
-    requires { Ready acc next work f pen grid.base grid.levels ws.old × (gap < 1024) }
-    ensures { Taken (down_min grid.levels gap) pen 1 grid.base grid.levels ws.old ws.new f acc next work next }
+fn take_down(ws: &mut [u64], temps: Temps, f: usize, gap: u64, pen: u64, grid: Grid)
+    requires { Ready temps.acc temps.next temps.work f pen grid.base grid.levels ws.old × (gap < 1024) }
+    ensures { Taken (down_min grid.levels gap) pen 1 grid.base grid.levels ws.old ws.new f temps.acc temps.next temps.work temps.next }
 {
-    down_into(ws, f, gap, next, work, grid);
-    take(ws, acc, next, work, pen, 1, grid);
+    down_into(ws, f, gap, temps.next, temps.work, grid);
+    take(ws, temps.acc, temps.next, temps.work, pen, 1, grid);
 }
 
 // The least so far with an edge from the list at f taken in: where it stands, which is acc or next. A list that is none everywhere
 // offers nothing. The rule for the levels is chosen by the kind's number; the range is for numbers that no kind has. Every kind but stay is one change more.
-pub fn take_edge(
-    ws: &mut [u64],
-    acc: usize,
-    next: usize,
-    work: usize,
-    f: usize,
-    kind: Kind,
-    pen: u64,
-    grid: Grid,
-) -> usize
-    requires { Ready acc next work f pen grid.base grid.levels ws.old × (gap_of kind ≤ 1023) }
-    ensures { Taken (edge_min grid.levels kind) pen (change_of kind) grid.base grid.levels ws.old ws.new f acc next work result }
+pub fn take_edge(ws: &mut [u64], temps: Temps, f: usize, kind: Kind, pen: u64, grid: Grid) -> usize
+    requires { Ready temps.acc temps.next temps.work f pen grid.base grid.levels ws.old × (gap_of kind ≤ 1023) }
+    ensures { Taken (edge_min grid.levels kind) pen (change_of kind) grid.base grid.levels ws.old ws.new f temps.acc temps.next temps.work result }
 {
     if curve::all_none(ws, f, grid.levels) {
-        return acc;
+        return temps.acc;
     }
     let number = plan::kind_number(kind);
     let gap = plan::gap_of(kind) as u64;
     match number {
         0 => {
-            take(ws, acc, next, f, pen, 0, grid);
-            next
+            take(ws, temps.acc, temps.next, f, pen, 0, grid);
+            temps.next
         }
         1 => {
-            take_any(ws, acc, next, work, f, pen, grid);
-            next
+            take_any(ws, temps, f, pen, grid);
+            temps.next
         }
         2 => {
-            take_up(ws, acc, next, work, f, gap, pen, grid);
-            next
+            take_up(ws, temps, f, gap, pen, grid);
+            temps.next
         }
         3 => {
-            take_down(ws, acc, next, work, f, gap, pen, grid);
-            next
+            take_down(ws, temps, f, gap, pen, grid);
+            temps.next
         }
         4 => {
-            take_up(ws, acc, next, work, f, gap, pen, grid);
-            take_down(ws, next, acc, work, f, gap, pen, grid);
-            acc
+            take_up(ws, temps, f, gap, pen, grid);
+            let swapped = Temps {
+                acc: temps.next,
+                next: temps.acc,
+                ..temps
+            };
+            take_down(ws, swapped, f, gap, pen, grid);
+            temps.acc
         }
-        5..=255 => acc,
+        5..=255 => temps.acc,
     }
 }
 

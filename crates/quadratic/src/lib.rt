@@ -19,13 +19,11 @@ pub const NONE: u64 = 1152921504606846976;
 // One change more, in the word that has a and k: w = a + 2^32 k.
 pub const CHANGE: u64 = 4294967296;
 
-// The order of the fields is that in which two are compared: where two quadratics differ c nearly always does, so that the other tests are hardly
-// reached and the processor predicts the one that is.
 #[derive(Clone, Copy, PartialEq, Eq)]
 pub struct Packed {
-    pub c: u64,
     pub w: u64,
     pub z: u64,
+    pub c: u64,
 }
 
 // A cost and a number of changes. The one that comes first is the less of two.

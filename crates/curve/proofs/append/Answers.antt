@@ -10,13 +10,13 @@ use Rattle.curve.proofs.Laws.{appended_back, appended_new}
 use Rattle.curve.proofs.append.Goals as goal
 
 -- equal as code compares them
-same : (p q : Packed) → (eqb p.c q.c && (eqb p.w q.w && eqb p.z q.z)) ≡ true → quad p ≡ quad q
+same : (p q : Packed) → (eqb p.w q.w && (eqb p.z q.z && eqb p.c q.c)) ≡ true → quad p ≡ quad q
 same p q h =
-    let c = and_parts (eqb p.c q.c) (eqb p.w q.w && eqb p.z q.z) h in
-    let w = and_parts (eqb p.w q.w) (eqb p.z q.z) c.1 in
-    let ec = eqb-true p.c q.c c.0 in
+    let w = and_parts (eqb p.w q.w) (eqb p.z q.z && eqb p.c q.c) h in
+    let z = and_parts (eqb p.z q.z) (eqb p.c q.c) w.1 in
     let ew = eqb-true p.w q.w w.0 in
-    let ez = eqb-true p.z q.z w.1 in
+    let ez = eqb-true p.z q.z z.0 in
+    let ec = eqb-true p.c q.c z.1 in
     cc
 
 pub returns-then-eq : goal.returns-then-eq
