@@ -3,4 +3,4 @@ use Rattle.layer.specs.Step.{TookEdges}
 use Rattle.layer.proofs.take_edges.Given as goal
 
 abbrev pub invariant-loop-i : goal.invariant-loop-i
-invariant-loop-i l = TookEdges (label_of l.boundary.label) l.boundary.t l.problem.plan.now.edges l.i l.key.count l.key.state l.from.stays l.from.changes l.problem.shape l.initial.ws l.ws l.first l.second l.work l.acc
+invariant-loop-i l = TookEdges (label_of l.boundary.label) l.boundary.t l.problem.plan.now.edges l.i l.key.count l.key.state l.from.stays l.from.changes l.problem.shape l.initial.ws l.ws l.temps.acc l.temps.next l.temps.work l.acc
