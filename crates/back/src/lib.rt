@@ -17,7 +17,7 @@ ghost use Rattle.back.specs.Read.{Readable, Reads, EndTo};
 use curve::{Low, Rank};
 use labels::{Boundary, Key};
 use layer::{Problem, Shape};
-use plan::Edge;
+use plan::{Edge, Plan};
 
 // A cost with its changes, and the level's index and the state that have it.
 #[derive(Clone, Copy)]
@@ -27,15 +27,15 @@ pub struct End {
 }
 
 // The better of the best end so far and the best of state s, which comes later.
-fn better_end(ws: &[u64], problem: &Problem, cur: usize, s: usize, best: End) -> End
-    requires { Readable 1 cur problem.now.shape ws.now × (ShapeOf problem.now.plan.now problem.now.shape × ((s < problem.now.plan.now.states) × (best.low.rank.changes ≤ count_limit))) }
-    ensures { (result.low.rank.changes ≤ count_limit) × ((H : Table) → Reads 1 cur problem.now.shape ws.now H → EndTo problem.now.plan.now H s best → EndTo problem.now.plan.now H (s + 1) result) }
+fn better_end(ws: &[u64], plan: &Plan, cur: usize, g: Shape, s: usize, best: End) -> End
+    requires { Readable 1 cur g ws.now × (ShapeOf plan.now g × ((s < plan.now.states) × (best.low.rank.changes ≤ count_limit))) }
+    ensures { (result.low.rank.changes ≤ count_limit) × ((H : Table) → Reads 1 cur g ws.now H → EndTo plan.now H s best → EndTo plan.now H (s + 1) result) }
 {
-    if !layer::in_set(problem.plan.end, s) {
+    if !layer::in_set(plan.end, s) {
         return best;
     }
-    let grid = problem.shape.grid;
-    let f = layer::list_at(cur, problem.shape, Key { count: 0, state: s });
+    let grid = g.grid;
+    let f = layer::list_at(cur, g, Key { count: 0, state: s });
     let low = curve::least_in(ws, f, 0, grid.levels - 1, grid);
     if quadratic::comes_first(low.rank, best.low.rank) {
         End { low, state: s }
@@ -46,16 +46,16 @@ fn better_end(ws: &[u64], problem: &Problem, cur: usize, s: usize, best: End) ->
 
 // The cheapest end in the end set: fewest changes, then lowest state, then lowest level. None, state 0 and level 0 where there is none. No label is
 // open at the end, so the lists of count 0 are all that is read.
-pub fn best_end(ws: &[u64], problem: &Problem, cur: usize) -> End
-    requires { Readable 1 cur problem.now.shape ws.now × ShapeOf problem.now.plan.now problem.now.shape }
-    ensures { (result.low.rank.changes ≤ count_limit) × ((H : Table) → Reads 1 cur problem.now.shape ws.now H → EndTo problem.now.plan.now H problem.now.plan.now.states result) }
+pub fn best_end(ws: &[u64], plan: &Plan, cur: usize, g: Shape) -> End
+    requires { Readable 1 cur g ws.now × ShapeOf plan.now g }
+    ensures { (result.low.rank.changes ≤ count_limit) × ((H : Table) → Reads 1 cur g ws.now H → EndTo plan.now H plan.now.states result) }
 {
     let mut best = End {
         low: Low::NONE,
         state: 0,
     };
-    for s in 0..problem.shape.states {
-        best = better_end(ws, problem, cur, s, best);
+    for s in 0..g.states {
+        best = better_end(ws, plan, cur, g, s, best);
     }
     best
 }

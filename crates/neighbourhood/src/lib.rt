@@ -107,11 +107,11 @@ fn forward(ws: &mut [u64], problem: &Problem, most: usize) -> usize
 }
 
 // The least cost of the layer at o in the end set, the largest number where there is none.
-fn entry(ws: &[u64], problem: &Problem, o: usize) -> u64
-    requires { Readable 1 o problem.now.shape ws.now × ShapeOf problem.now.plan.now problem.now.shape }
-    ensures { (H : Table) → Reads 1 o problem.now.shape ws.now H → result ≡ entry_of (reported (least_end_at problem.now.plan.now H)) }
+fn entry(ws: &[u64], plan: &Plan, o: usize, g: Shape) -> u64
+    requires { Readable 1 o g ws.now × ShapeOf plan.now g }
+    ensures { (H : Table) → Reads 1 o g ws.now H → result ≡ entry_of (reported (least_end_at plan.now H)) }
 {
-    let least = back::best_end(ws, problem, o).low.rank.value;
+    let least = back::best_end(ws, plan, o, g).low.rank.value;
     if least < quadratic::NONE {
         return least;
     }
@@ -127,7 +127,7 @@ fn put_entries(ws: &[u64], problem: &Problem, most: usize, bank: usize, list: &m
     let mut some = false;
     for k in 0..most + 1 {
         let o = place_of(problem.shape, slot_of(bank, k + 1, n));
-        let cost = entry(ws, problem, o);
+        let cost = entry(ws, problem.plan, o, problem.shape);
         list[k] = cost;
         if cost != NO_COST {
             some = true;

@@ -15,9 +15,9 @@ returns-then-comes_first c = (
   c.least_in-low.ensures.changes,
   λ H r a.
       let p = c.requires in
-      let h : c.args.s < c.args.problem.now.shape.states = omega arith in
-      let l = least_all p.0 0 _ (omega arith) h _ c.list_at-f.ensures r c.args.problem.now.plan.now p.1.0 c.least_in-low.ensures in
-      end_better a (sym c.in_set.ensures ∙ c.if-not-in_set.false) _ l (least_most p.0 0 _ (omega arith) h _ c.list_at-f.ensures r c.args.problem.now.plan.now p.1.0 l) (ltb-true _ _ (sym c.comes_first.ensures ∙ c.if-comes_first.true)),
+      let h : c.args.s < c.args.g.states = omega arith in
+      let l = least_all p.0 0 _ (omega arith) h _ c.list_at-f.ensures r c.args.plan.now p.1.0 c.least_in-low.ensures in
+      end_better a (sym c.in_set.ensures ∙ c.if-not-in_set.false) _ l (least_most p.0 0 _ (omega arith) h _ c.list_at-f.ensures r c.args.plan.now p.1.0 l) (ltb-true _ _ (sym c.comes_first.ensures ∙ c.if-comes_first.true)),
 )
 
 pub returns-else-comes_first : goal.returns-else-comes_first
@@ -25,7 +25,7 @@ returns-else-comes_first c = (
   c.requires.1.1.1,
   λ H r a.
       let p = c.requires in
-      let h : c.args.s < c.args.problem.now.shape.states = omega arith in
-      let l = least_all p.0 0 _ (omega arith) h _ c.list_at-f.ensures r c.args.problem.now.plan.now p.1.0 c.least_in-low.ensures in
-      end_kept a (sym c.in_set.ensures ∙ c.if-not-in_set.false) _ l (least_most p.0 0 _ (omega arith) h _ c.list_at-f.ensures r c.args.problem.now.plan.now p.1.0 l) (ltb-false _ _ (sym c.comes_first.ensures ∙ c.if-comes_first.false)),
+      let h : c.args.s < c.args.g.states = omega arith in
+      let l = least_all p.0 0 _ (omega arith) h _ c.list_at-f.ensures r c.args.plan.now p.1.0 c.least_in-low.ensures in
+      end_kept a (sym c.in_set.ensures ∙ c.if-not-in_set.false) _ l (least_most p.0 0 _ (omega arith) h _ c.list_at-f.ensures r c.args.plan.now p.1.0 l) (ltb-false _ _ (sym c.comes_first.ensures ∙ c.if-comes_first.false)),
 )
