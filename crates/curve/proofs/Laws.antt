@@ -10,9 +10,9 @@ use Rattle.integers.specs.Rep.{le_or_lt}
 use mathlib.Core.Bool.{Bool, true, false}
 use lib.Dec.{eqb, leb}
 use borrow.Author.Tests.{le-leb, lt-leb}
-use Rattle.quadratic.specs.Fine.{quad_eq, late_most}
+use Rattle.quadratic.specs.Fine.{quad_eq}
 use Rattle.quadratic.specs.declared.Packed.{Packed}
-use Rattle.quadratic.specs.Quad.{Quad, quad, Small, Sized, Stays, Under, up, down, pick, late, better, raised, none, flat, absent, moved}
+use Rattle.quadratic.specs.Quad.{Quad, quad, Small, Sized, pick, better, raised, none, flat, absent, moved}
 use Rattle.curve.specs.Pieces.{end_of, start_of, quad_at, piece, Formed, Built, Is, Kept, Same, Stored, Appended, Emits, Lent, shift_of, Yields}
 use Rattle.curve.specs.Lists.{last_or, start_next, start_zero, count_le, end_lt, piece_at, same_quad, built_put, built_longer, kept_same, kept_refl, kept_then, kept_wider, kept_lent, same_end, opened, count_same, emits_none, emits_append}
 
@@ -105,33 +105,6 @@ small s = record { count = s.count; sum = s.sum; rest = omega (arith, s.rest); f
 -- with something more, as one of two is compared
 abbrev pub with : Quad → ℕ → Quad
 with q n = record { a = q.a; z = q.z; c = n; k = q.k }
-
-pub small_with : {q : Quad} (n : ℕ) → Sized q → n ≤ q.c + 1 → Small (with q n)
-small_with n s h = record { count = s.count; sum = s.sum; rest = omega (arith, s.rest); few = s.few }
-
--- one level alone, and a crossing counted from base
-pub stays_one : (p q : Quad) (base a y : ℕ) → a ≡ y → Under p q (base + a) → Stays p q (base + a) (base + y) (base + y)
-stays_one p q base a y e h = record {
-  low = omega arith;
-  high = omega arith;
-  under = λ m u v. let d : base + a ≡ m = omega arith in subst (λ (t : ℕ). Under p q t) d h;
-  last = λ u. absurd (omega arith);
-}
-
-pub stays_from : (p q : Quad) (base a y r : ℕ) → Stays p q (base + a) (base + y) r → Stays p q (base + a) (base + y) (base + (r - base))
-stays_from p q base a y r t =
-    let e : r ≡ base + (r - base) = omega (arith, t.low) in
-    subst (λ (k : ℕ). Stays p q (base + a) (base + y) k) e t
-
-pub better_first : (p q : Quad) (base a y r n : ℕ) → n ≡ p.c + late p.k q.k → Stays (with p n) q (base + a) (base + y) (base + r) → (j : ℕ) → a ≤ j → j ≤ r → p ≡ better (base + j) p q
-better_first p q base a y r n e t j u v =
-    let o : up p (base + j) + down q (base + j) + late p.k q.k ≤ up q (base + j) + down p (base + j) = omega (arith, t.under (base + j) (omega arith) (omega arith)) in
-    sym (ap (λ (b : Bool). pick b p q) (le-leb _ _ o))
-
-pub better_second : (p q : Quad) (base a y r n : ℕ) → n ≡ q.c + 1 - late p.k q.k → Stays (with q n) p (base + a) (base + y) (base + r) → (j : ℕ) → a ≤ j → j ≤ r → q ≡ better (base + j) p q
-better_second p q base a y r n e t j u v =
-    let o : up q (base + j) + down p (base + j) < up p (base + j) + down q (base + j) + late p.k q.k = omega (arith, late_most p.k q.k, t.under (base + j) (omega arith) (omega arith)) in
-    sym (ap (λ (b : Bool). pick b p q) (lt-leb _ _ o))
 
 small_pick : (b : Bool) (pen ch : ℕ) (q : Quad) → Sized (pick b q (record { a = q.a; z = q.z; c = q.c + pen; k = q.k + ch })) → Small q
 small_pick true pen ch q s = small s
@@ -253,9 +226,6 @@ pub emits_one : {ws ws' : List ℕ} {dst n r : ℕ} {q : Quad} (x y : ℕ) → n
 emits_one {ws} {ws'} {dst} {n} {r} {q} x y g h a =
     let e : y - 1 + 1 ≡ y = omega arith in
     subst (λ (t : ℕ). Emits (λ (j : ℕ). q) ws ws' dst n x t r) e (emits_append g (omega arith) (omega arith) (emits_none (λ (j : ℕ). q) ws dst n x) a (λ j u v. refl))
-
-pub emits_no : (F : ℕ → Quad) (ws : List ℕ) (dst n x y : ℕ) → x ≤ y → y ≤ x → Emits F ws ws dst n x y n
-emits_no F ws dst n x y h g = let e : y ≡ x = omega arith in rw e (emits_none F ws dst n x)
 
 -- ---- shifted
 pub shift_none : (g j : ℕ) (F : ℕ → Quad) → j < g → absent ≡ shift_of g F j

@@ -7,30 +7,12 @@ use native.Mathlib.Omega.{arith}
 use Rattle.integers.specs.Rep.{le_or_lt}
 use Rattle.integers.specs.Pairs.{lex}
 use Rattle.quadratic.specs.Fine.{value_most, fine_sized, late_is}
-use Rattle.quadratic.specs.Quad.{Quad, up, down, cost, value, flat, no_value, late, Small, Sized, Lowest, Stays, Under, Over, Fine, count_limit, cost_limit}
-use Rattle.quadratic.specs.declared.Rank.{Rank}
+use Rattle.quadratic.specs.Quad.{Quad, up, down, cost, value, flat, no_value, late, Small, Sized, Lowest, Fine, count_limit, cost_limit}
 use Rattle.curve.specs.declared.Low.{Low}
 use Rattle.curve.specs.Pieces.{Emits, Appended}
 use Rattle.curve.specs.Lists.{emits_append, emits_then, emits_as}
 use Rattle.curve.proofs.Laws.{small}
-use Rattle.curve.specs.Lows.{top, top_cost, rank_of, low_of, no_low, costs, levelled_is, Least, LeastIn, Drops, Lowered, lowest, prefix_of, lowest_new, lowest_stays, lowest_falls, prefix_new, prefix_old}
-
-pub drops_crossed : (p : Quad) (best a v base r : ℕ) → a ≤ v → Over (flat best 0) p (base + v) → Stays (flat best 0) p (base + a) (base + v) r → Drops p best a v base (r - base + 1)
-drops_crossed p best a v base r h o t = record {
-  low = omega (arith, t.low);
-  high = omega (arith, t.low, before_end);
-  before = λ m u w. t.under (base + m) (omega arith) (omega (arith, t.low));
-  at = let e : r + 1 ≡ base + (r - base + 1) = omega (arith, t.low) in subst (Over (flat best 0) p) e (t.last before_end);
-}
-  where
-    before_end : r < base + v
-    before_end = ⊎_elim (λ g. absurd (same g)) (λ g. g) (le_or_lt (base + v) r)
-      where
-        same : base + v ≤ r → ⊥
-        same g = let u : Under (flat best 0) p (base + v) = t.under (base + v) (omega arith) g in omega arith
-
-pub drops_first : (p : Quad) (best a v base : ℕ) → a ≤ v → Over (flat best 0) p (base + a) → Drops p best a v base a
-drops_first p best a v base h o = record { low = omega arith; high = h; before = λ m u w. absurd (omega arith); at = o }
+use Rattle.curve.specs.Lows.{top, top_cost, low_of, no_low, costs, levelled_is, Least, LeastIn, Drops, Lowered, lowest, prefix_of, lowest_new, lowest_stays, lowest_falls, prefix_new, prefix_old}
 
 -- ---- a piece where it is in force
 pub fine_on : (P : ℕ → Quad) (L base x e : ℕ) (q : Quad) → base + L ≤ 262144 → ((j : ℕ) → j < L → Fine count_limit cost_limit (P j) (base + j)) → x ≤ e → e < L → ((j : ℕ) → x ≤ j → j ≤ e → P j ≡ q)
@@ -125,20 +107,6 @@ module _ (p : Quad) (base a e v w : ℕ) (whole : (u : ℕ) → base + a ≤ u �
         rest i c g = omega (arith, wy, here i (omega (arith, d.low, d.high)) g, at_least i (omega (arith, d.low, d.high)) g)
 
 -- ---- the least on a range
-pub lowered_empty : (best : Low) (p : Quad) (a b base : ℕ) → best.rank.changes ≤ count_limit → b < a → Lowered best p a b base best
-lowered_empty best p a b base k h = record { least = λ m u t. absurd (omega arith); is = inl refl; changes = k }
-
-module _ (best : Low) (p : Quad) (a b base v w : ℕ) (whole : (u : ℕ) → base + a ≤ u → u ≤ base + b → down p u ≤ up p u) (l : Lowest p (base + a) (base + b) v) (ew : w ≡ value p v) where
-  pub lowered_new : (r : Rank) → rank_of r ≡ w → r.changes ≤ count_limit → rank_of r < low_of best → Lowered best p a b base (record { rank = r; level = v - base })
-  lowered_new r er k h = record {
-    least = λ m u t. omega (arith, er, at_most p a b base v w whole l ew m u t);
-    is = inr ((omega (arith, l.low), omega (arith, l.low, l.high)), (er ∙ at_level p a b base v w whole l ew, (h, λ m u t. omega (arith, er, ew, l.first (base + m) (omega arith) (omega (arith, l.low)), l.high, whole (base + m) (omega arith) (omega (arith, l.low, l.high)), whole v l.low l.high))));
-    changes = k;
-  }
-
-  pub lowered_old : best.rank.changes ≤ count_limit → low_of best ≤ w → Lowered best p a b base best
-  lowered_old k h = record { least = λ m u t. omega (arith, at_most p a b base v w whole l ew m u t); is = inl refl; changes = k }
-
 -- best is the least of G at those levels of [from, to] that are below x
 pub record Till (G : ℕ → ℕ) (from to x : ℕ) (best : Low) : Type 0 where
   pub least : (m : ℕ) → from ≤ m → m ≤ to → m < x → low_of best ≤ G m

@@ -15,14 +15,14 @@ use Rattle.quadratic.specs.Fine.{pick_n, far}
 use Rattle.curve.specs.declared.Two.{Two}
 use Rattle.curve.specs.Pieces.{piece, none_only, Made, shift_of, mirror_of, constant_but}
 use Rattle.curve.specs.Lows.{least_of, lowest, prefix_of, costs, TwoLeast}
-use Rattle.curve.specs.Curve.{Curve, Limits, curve_as, curve_prefix, curve_shift, curve_mirror, curve_least, curve_loss, curve_wider, curve_costs, curve_none, curve_most, curve_value}
+use Rattle.curve.specs.Curve.{Curve, Limits, curve_as, curve_prefix, curve_shift, curve_mirror, curve_least, curve_loss, curve_costs, curve_none, curve_most, curve_value}
 use Rattle.plan.specs.declared.Kind.{Kind}
 use Rattle.plan.specs.declared.Kind.TheVariants.{Stay, Any, Up, Down, Abs}
 use Rattle.model.specs.Index.{no_cost, prefix_min, suffix_min, up_min, down_min, edge_min}
 use Rattle.model.proofs.Index.{edge_min_lem, edge_min_none}
 use Rattle.model.specs.Model.{change_of}
 use Rattle.model.specs.Held.{raise}
-use Rattle.edges.proofs.Others.{any_inside, least_most, least_curve, others_curve, least_seen}
+use Rattle.edges.proofs.Others.{any_inside, least_curve, others_curve, least_seen}
 use Rattle.edges.specs.Edge.{Into, Joint, Sound, Ready, Moved, StandsFor, Joined, Taken, WithLoss, kept_off, spared_refl, spared_then, spared_curve, spared_swap, apart_swap, hand_swap, min_regroup, raise_min, raise_none, less_min, plus_raise, lowest_prefix}
 
 pub lower_limits : {A B base L : ℕ} (D C : ℕ) → D ≤ A → C ≤ B → Limits A B base L → Limits D C base L
@@ -92,10 +92,6 @@ joined {pen = pen} {ch} h m = record {
 
 -- ---- an edge: moved, then joined
 module _ {pen base L f acc next work : ℕ} {ws : List ℕ} (y : Ready acc next work f pen base L ws) where
-  -- the list at f, the penalty aside
-  pub ready_from : Sound count_limit cost_limit base L ws f
-  ready_from = curve_costs (curve_wider count_limit cost_limit (omega arith) (omega arith) y.from)
-
   pub ready_stay : Joint acc next f L (length ws)
   ready_stay = record { acc_next = y.hand.acc_next; g_next = y.hand.into.f_next; room_next = y.hand.into.room_next }
 
@@ -108,9 +104,6 @@ module _ {pen base L f acc next work : ℕ} {ws : List ℕ} (y : Ready acc next 
 
   -- ---- any: at the level of the least the second least, or the least there too
   module _ {r : Two} (t : TwoLeast (costs base (piece ws f L)) L r) where
-    pub least_room : least_of r ≤ no_value
-    least_room = least_most y.some t y.limits ready_from
-
     pub others_stand : {w1 : List ℕ} → Made (constant_but r) ws w1 work L → StandsFor (edge_min L Any) pen 1 base L ws w1 f acc next work
     others_stand m = record {
       spared = record { size = m.kept.size; word = λ i a b c. kept_off L m.kept i b };

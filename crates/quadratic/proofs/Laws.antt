@@ -11,12 +11,6 @@ use Rattle.quadratic.specs.Level.{Placed}
 use Rattle.quadratic.specs.Quad.{Quad, Lowest, Cut, Turns, Stays, AtMost, Less, Under, Over}
 
 -- ---- a quotient below x + 1 or at least y: the end of [x, y]
-pub cut_low : (p q d x y : ℕ) → x ≤ y → p < d * (x + 1) + q → Cut p q d x y x
-cut_low p q d x y h g = record { low = omega arith; high = h; under = λ m a b. omega arith; over = λ m a b. omega (arith, mul-le-mul_left d a) }
-
-pub cut_high : (p q d x y : ℕ) → x ≤ y → d * y + q ≤ p → Cut p q d x y y
-cut_high p q d x y h g = record { low = h; high = omega arith; under = λ m a b. omega (arith, mul-le-mul_left d b); over = λ m a b. omega arith }
-
 -- ---- a quotient rounded down on signed levels, at its place
 pub cut_of : (p q d x y r : ℕ) (m : ℤ) → (m *ℤ pos d) ≤ℤ (pos p -ℤ pos (q + d * 163840)) → (pos p -ℤ pos (q + d * 163840)) <ℤ ((m +ℤ pos 1) *ℤ pos d) → Placed m x y r → Cut p q d x y r
 cut_of p q d x y r m f g t = record {

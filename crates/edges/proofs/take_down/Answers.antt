@@ -1,10 +1,7 @@
 -- `edges::take_down`: the same in the mirror, and the least of it and of what was there. Assumes nothing.
 use native.Mathlib.Omega.{arith}
-use Rattle.edges.proofs.Moves.{ready_from, moved_stands, stands_joint, stands_acc, stands_work, stands_taken}
+use Rattle.edges.proofs.Moves.{moved_stands, stands_joint, stands_acc, stands_work, stands_taken}
 use Rattle.edges.proofs.take_down.Goals as goal
-
-pub down_into-requires : goal.down_into-requires
-down_into-requires c = record { into = (c.requires.0.hand.into, c.requires.1); limits = (c.requires.0.limits, ready_from c.requires.0) }
 
 pub take-requires : goal.take-requires
 take-requires c =

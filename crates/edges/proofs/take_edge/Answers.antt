@@ -1,6 +1,6 @@
 -- `edges::take_edge`: kind by kind, by the number. Assumes nothing.
 use Rattle.edges.proofs.Moves.{stay_taken, taken_ready, none_taken, stay_edge, any_edge, up_edge, down_edge, abs_edge}
-use Rattle.plan.proofs.ByNumber.{kind_stay, kind_any, kind_up, kind_down, kind_abs, no_kind}
+use Rattle.plan.proofs.ByNumber.{kind_stay, kind_any, kind_up, kind_down, kind_abs}
 use native.Mathlib.Omega.{arith}
 use mathlib.Core.Path.{sym, ◌∙◌}
 use Rattle.edges.proofs.take_edge.Goals as goal
@@ -25,6 +25,3 @@ returns-in-3 c = down_edge c.args.kind _ (kind_down _ _ (sym c.kind_number-numbe
 
 pub returns-in-4 : goal.returns-in-4
 returns-in-4 c = abs_edge c.args.kind _ (kind_abs _ _ (sym c.kind_number-number.ensures ∙ c.in-4.is) c.gap_of-gap.ensures) c.requires.0 c.take_up-in-4.ensures c.take_down-in-4.ensures
-
-pub returns-in-5-to-255 : goal.returns-in-5-to-255
-returns-in-5-to-255 c = no_kind c.args.kind (omega (arith, c.kind_number-number.ensures))

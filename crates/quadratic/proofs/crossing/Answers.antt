@@ -3,10 +3,10 @@ use mathlib.Core.Path.{◌≡◌, sym, ◌∙◌}
 use Prim.Native.Nat.{ℕ, ◌-◌}
 use Rattle.quadratic.specs.Places.{last_under, stays_is}
 use native.Mathlib.Omega.{arith}
-use borrow.Author.Tests.{leb-true, leb-false}
-use Rattle.quadratic.specs.Quad.{quad, Quad, Under, Over, Stays}
+use borrow.Author.Tests.{leb-true}
+use Rattle.quadratic.specs.Quad.{quad, Quad, Under, Stays}
 use Rattle.integers.specs.Rep.{le_or_lt}
-use Rattle.quadratic.proofs.Laws.{under_back, under_on, under_between, under_line, line_stays, apart}
+use Rattle.quadratic.proofs.Laws.{under_back, under_on, under_between, under_line, line_stays}
 use Rattle.quadratic.proofs.crossing.Goals as goal
 
 -- the place, and that w stays under up to it
@@ -30,17 +30,11 @@ returns-then-under c = both (let u : Under (quad c.args.w) (quad c.args.l) c.tur
       (le_or_lt m c.turning_point-k.result);
 })
 
-pub bisect-requires : goal.bisect-requires
-bisect-requires c = let o : Over (quad c.args.w) (quad c.args.l) c.turning_point-k.result = leb-false _ _ (sym c.under.ensures ∙ c.if-under.false) in record { small = (c.requires.small.0, (apart (quad c.args.w) (quad c.args.l) _ _ c.turning_point-k.ensures.low c.requires.under o, omega arith)); under = (c.requires.under, o) }
-
 pub returns-then-a-b-2 : goal.returns-then-a-b-2
 returns-then-a-b-2 c = both (let e = c.bisect.ensures in record { low = e.low; high = omega arith; last = λ h. e.last; under = λ m p q. under_back (quad c.args.w) (quad c.args.l) _ _ _ c.if-a-b-2.true c.turning_point-k.ensures c.bisect.result (omega arith) e.under m p q })
 
 pub returns-then-under-2 : goal.returns-then-under-2
 returns-then-under-2 c = both (let u : Under (quad c.args.w) (quad c.args.l) c.args.y = leb-true _ _ (sym c.under-2.ensures ∙ c.if-under-2.true) in record { low = c.requires.small.1.0; high = omega arith; last = λ h. omega arith; under = λ m p q. under_between (quad c.args.w) (quad c.args.l) _ _ c.if-a-b-2.false c.requires.under u m p q })
-
-pub bisect-requires-2 : goal.bisect-requires-2
-bisect-requires-2 c = let o : Over (quad c.args.w) (quad c.args.l) c.args.y = leb-false _ _ (sym c.under-2.ensures ∙ c.if-under-2.false) in record { small = (c.requires.small.0, (apart (quad c.args.w) (quad c.args.l) _ _ c.requires.small.1.0 c.requires.under o, c.requires.small.1.1)); under = (c.requires.under, o) }
 
 pub returns : goal.returns
 returns c = both (let e = c.bisect-2.ensures in record { low = e.low; high = omega arith; last = λ h. e.last; under = λ m p q. under_between (quad c.args.w) (quad c.args.l) _ _ c.if-a-b-2.false c.requires.under e.under m p q })

@@ -10,30 +10,12 @@ use mir.Syntax.{w64}
 use mir.Val.{SFits}
 use Rattle.integers.specs.Rep.{eq_z, nz, ◌⊖◌, lt_z_of}
 use Rattle.integers.proofs.Floor.{floor_down}
-use Rattle.quadratic.proofs.Laws.{cut_low, cut_high, cut_of}
+use Rattle.quadratic.proofs.Laws.{cut_of}
 use Rattle.quadratic.proofs.cut.Goals as goal
 
 -- the products fit
 times : (d v : ℕ) → d ≤ 2199023255552 → v ≤ 262144 → d * v ≤ 2199023255552 * 262144
 times d v = mul-le-mul
-
-pub overflow_mul-d : goal.overflow_mul-d
-overflow_mul-d c = omega (arith, times c.args.d (c.args.x + 1) (omega arith) (omega arith))
-
-pub overflow_add-d : goal.overflow_add-d
-overflow_add-d c = omega (arith, times c.args.d (c.args.x + 1) (omega arith) (omega arith))
-
-pub returns-then-p-d : goal.returns-then-p-d
-returns-then-p-d c = cut_low _ _ _ _ _ c.requires.x_le_y.0 c.if-p-d.true
-
-pub overflow_mul-d-2 : goal.overflow_mul-d-2
-overflow_mul-d-2 c = omega (arith, times c.args.d c.args.y (omega arith) (omega arith))
-
-pub overflow_add-d-2 : goal.overflow_add-d-2
-overflow_add-d-2 c = omega (arith, times c.args.d c.args.y (omega arith) (omega arith))
-
-pub returns-then-d-y : goal.returns-then-d-y
-returns-then-d-y c = cut_high _ _ _ _ _ c.requires.x_le_y.0 c.if-d-y.true
 
 pub returns : goal.returns
 returns c =

@@ -1,7 +1,6 @@
 -- `quadratic::lowest_min`: the slope's turn; with no square, q is level or falls. Assumes nothing.
 use mathlib.Core.Path.{◌≡◌}
 use Prim.Native.Nat.{ℕ, ◌-◌}
-use native.Mathlib.Omega.{arith}
 use Rattle.quadratic.specs.Quad.{Quad, Lowest}
 use Rattle.quadratic.specs.Places.{lowest_place, lowest_is}
 use Rattle.quadratic.proofs.Laws.{lowest_at_turn, level, slope}
@@ -16,9 +15,6 @@ returns-then-q-eq0 c = both (level _ _ _ c.if-a-eq0.true c.if-q-eq0.true c.requi
 
 pub returns-then-a-eq0 : goal.returns-then-a-eq0
 returns-then-a-eq0 c = both (slope _ _ _ c.if-a-eq0.true c.if-q-eq0.false c.requires.1.0)
-
-pub turning_point-requires : goal.turning_point-requires
-turning_point-requires c = omega arith
 
 pub returns : goal.returns
 returns c = both (lowest_at_turn _ _ _ _ c.turning_point.ensures)
