@@ -203,7 +203,7 @@ pub fn by_changes(
     let n = readings.len();
     refusals::check_table(plan, n, most)?;
     let g = search::shape_of(plan);
-    let need = search::work_words(g) * (most + 1);
+    let need = search::work_words(g.states, g.grid.levels) * (most + 1);
     if workspace.len() < need {
         return Err(Refusal::WorkspaceTooShort);
     }

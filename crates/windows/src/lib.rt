@@ -81,7 +81,7 @@ pub fn least_costs(
     let n = record.len();
     refusals::check_window(plan, n, w)?;
     let g = search::shape_of(plan);
-    let need = search::work_words(g);
+    let need = search::work_words(g.states, g.grid.levels);
     if workspace.len() < need {
         return Err(Refusal::WorkspaceTooShort);
     }

@@ -18,7 +18,7 @@ pub shape_of-g-requires : goal.shape_of-g-requires
 shape_of-g-requires c = checked_of _ _ _ c.check_table.ensures (ap number_of c.in_ok-check_table.was)
 
 pub work_words-requires : goal.work_words-requires
-work_words-requires c = small_of (checked_of _ _ _ c.check_table.ensures (ap number_of c.in_ok-check_table.was)) c.shape_of-g.ensures.0
+work_words-requires c = let k = small_of (checked_of _ _ _ c.check_table.ensures (ap number_of c.in_ok-check_table.was)) c.shape_of-g.ensures.0 in (k.states, k.levels)
 
 pub overflow_add-need : goal.overflow_add-need
 overflow_add-need c = omega (arith, (accepts _ _ _ c.check_table.ensures (ap number_of c.in_ok-check_table.was)).1)

@@ -15,7 +15,7 @@ pub shape_of-g-requires : goal.shape_of-g-requires
 shape_of-g-requires c = checked_point c.args.plan c.args.readings.now c.args.state c.args.level _ (number_back c.args.plan c.args.readings.now c.args.state c.ranges.level _ c.check_point.ensures) (ap number_of c.in_ok-check_point.was)
 
 pub work_words-need-requires : goal.work_words-need-requires
-work_words-need-requires c = small_of (checked_point c.args.plan c.args.readings.now c.args.state c.args.level _ (number_back c.args.plan c.args.readings.now c.args.state c.ranges.level _ c.check_point.ensures) (ap number_of c.in_ok-check_point.was)) c.shape_of-g.ensures.0
+work_words-need-requires c = let k = small_of (checked_point c.args.plan c.args.readings.now c.args.state c.args.level _ (number_back c.args.plan c.args.readings.now c.args.state c.ranges.level _ c.check_point.ensures) (ap number_of c.in_ok-check_point.was)) c.shape_of-g.ensures.0 in (k.states, k.levels)
 
 pub returns-then-workspace-need : goal.returns-then-workspace-need
 returns-then-workspace-need c = let p = point_short c.args.plan c.args.readings.now c.args.state c.args.level c.args.workspace.now _ (number_back c.args.plan c.args.readings.now c.args.state c.ranges.level _ c.check_point.ensures) (ap number_of c.in_ok-check_point.was) _ (need_is (checked_point c.args.plan c.args.readings.now c.args.state c.args.level _ (number_back c.args.plan c.args.readings.now c.args.state c.ranges.level _ c.check_point.ensures) (ap number_of c.in_ok-check_point.was)) c.shape_of-g.ensures.0 _ c.work_words-need.ensures.0) c.if-workspace-need.true in record { answer = p.0; words = p.1 }

@@ -14,7 +14,7 @@ pub shape_of-g-requires : goal.shape_of-g-requires
 shape_of-g-requires c = checked_of c.args.plan c.args.readings.now _ c.check_search.ensures (ap number_of c.in_ok-check_search.was)
 
 pub work_words-need-requires : goal.work_words-need-requires
-work_words-need-requires c = small_of (checked_of c.args.plan c.args.readings.now _ c.check_search.ensures (ap number_of c.in_ok-check_search.was)) c.shape_of-g.ensures.0
+work_words-need-requires c = let k = small_of (checked_of c.args.plan c.args.readings.now _ c.check_search.ensures (ap number_of c.in_ok-check_search.was)) c.shape_of-g.ensures.0 in (k.states, k.levels)
 
 pub returns-then-workspace-need : goal.returns-then-workspace-need
 returns-then-workspace-need c = let p = answered_short c.args.plan c.args.readings.now c.args.workspace.now c.args.runs.now _ c.check_search.ensures (ap number_of c.in_ok-check_search.was) _ (need_is (checked_of c.args.plan c.args.readings.now _ c.check_search.ensures (ap number_of c.in_ok-check_search.was)) c.shape_of-g.ensures.0 _ c.work_words-need.ensures.0) c.if-workspace-need.true in record { answer = p.0; list = p.1.0; words = p.1.1 }

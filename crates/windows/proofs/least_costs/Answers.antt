@@ -13,7 +13,7 @@ pub shape_of-g-requires : goal.shape_of-g-requires
 shape_of-g-requires c = (accepts _ _ _ c.check_window.ensures (ap number_of c.in_ok-check_window.was)).plan
 
 pub work_words-need-requires : goal.work_words-need-requires
-work_words-need-requires c = small_of (accepts _ _ _ c.check_window.ensures (ap number_of c.in_ok-check_window.was)).plan c.shape_of-g.ensures.0
+work_words-need-requires c = let k = small_of (accepts _ _ _ c.check_window.ensures (ap number_of c.in_ok-check_window.was)).plan c.shape_of-g.ensures.0 in (k.states, k.levels)
 
 pub returns-then-workspace-need : goal.returns-then-workspace-need
 returns-then-workspace-need c = let p = answered_short c.args.plan c.args.record.now c.args.w c.args.workspace.now c.args.costs.now c.check_window.ensures (ap number_of c.in_ok-check_window.was) c.shape_of-g.ensures c.work_words-need.ensures.0 c.if-workspace-need.true in record { answer = p.0; list = p.1.0; words = p.1.1 }
