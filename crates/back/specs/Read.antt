@@ -5,7 +5,6 @@ use Rattle.std.proofs.Common.{◌∙◌, ap, mul-le-mul_right}
 use Rattle.std.proofs.Math.Logic.{inl, inr, ⊎_elim}
 use native.Mathlib.Omega.{arith}
 use Rattle.integers.specs.Rep.{le_or_lt}
-use Rattle.integers.specs.Pairs.{lex}
 use Rattle.quadratic.specs.Quad.{none, count_limit, cost_limit}
 use Rattle.plan.specs.declared.Plan.{Plan}
 use Rattle.model.specs.Model.{width, in_set}

@@ -5,7 +5,6 @@ use Rattle.plan.specs.declared.Plan.{Plan}
 use Rattle.plan.specs.declared.Edge.{Edge}
 use Rattle.plan.specs.declared.Label.{Label}
 use Rattle.plan.specs.Build.{gap_of}
-use Rattle.integers.specs.Pairs.{lex}
 use Rattle.model.specs.Model.{width, edge_at}
 use Rattle.model.specs.Labels.{label_on, counts}
 use Rattle.model.specs.Checked.{Checked}

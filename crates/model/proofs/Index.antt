@@ -16,7 +16,7 @@ use Rattle.plan.specs.declared.Kind.TheVariants.{Stay, Any, Up, Down, Abs}
 use Rattle.model.specs.Cost.{Cost, Below, ◌≼◌, value}
 use Rattle.model.proofs.Bools.{and_yes, same_test}
 use Rattle.model.proofs.Grid.{le_z_true, abs_is, le_index}
-use Rattle.model.specs.Model.{above, permits}
+use Rattle.model.specs.Model.{permits}
 use Rattle.model.specs.Index.{MinAt, Permitted, down_min, edge_min, held, no_cost, pair_of, permits_at, prefix_min, reported, suffix_min, up_min}
 
 -- ---- levels and indices

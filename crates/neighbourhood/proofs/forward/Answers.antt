@@ -1,9 +1,8 @@
 -- `neighbourhood::forward`: reading by reading, the two banks in turn. Assumes nothing.
-use Rattle.neighbourhood.proofs.Slots.{place_is, ground_then}
-use Rattle.neighbourhood.proofs.Empty.{empty_ready, start_ready, first_slots}
+use Rattle.neighbourhood.proofs.Slots.{place_is}
+use Rattle.neighbourhood.proofs.Empty.{first_slots}
 use Rattle.neighbourhood.proofs.Steps.{forward_more, forward_all, other_banks}
-use Rattle.saved.proofs.Chains.{inside_refl, inside_then}
-use Rattle.layer.proofs.Next.{shape_small}
+use Rattle.saved.proofs.Chains.{inside_refl}
 use native.Mathlib.Omega.{arith}
 use native.Mathlib.Numerals.{add-one}
 use mathlib.Core.Path.{refl}

@@ -1,6 +1,5 @@
 -- `neighbourhood::forward`: reading by reading, the two banks in turn. Assumes nothing.
 use Rattle.neighbourhood.specs.Slots.{Banks, StepTo}
-use Prim.Native.Nat.{◌-◌, ◌≤◌}
 use Rattle.neighbourhood.proofs.forward.Given as goal
 
 abbrev pub invariant-loop-t : goal.invariant-loop-t

@@ -1,6 +1,6 @@
 -- `neighbourhood::put_entries`: the entries, and whether one is a cost. Assumes nothing.
 use Rattle.neighbourhood.proofs.Slots.{slot_low, slot_place}
-use Rattle.neighbourhood.proofs.Entries.{may_read, entry_is, entered_none, entered_more, entered_all}
+use Rattle.neighbourhood.proofs.Entries.{may_read, entry_is, entered_none, entered_more}
 use Rattle.layer.proofs.Next.{shape_small}
 use native.Mathlib.Omega.{arith}
 use native.Mathlib.Numerals.{add-one}

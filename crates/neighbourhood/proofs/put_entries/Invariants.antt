@@ -1,6 +1,5 @@
 -- `neighbourhood::put_entries`: the entries, and whether one is a cost. Assumes nothing.
 use Rattle.neighbourhood.proofs.Entries.{Entered}
-use Prim.Native.Nat.{suc, ◌-◌, ◌≤◌}
 use Rattle.neighbourhood.proofs.put_entries.Given as goal
 
 abbrev pub invariant-loop-k : goal.invariant-loop-k

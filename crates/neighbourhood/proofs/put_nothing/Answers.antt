@@ -1,6 +1,6 @@
 -- `neighbourhood::put_nothing`: every list of slot 0 has nothing. Assumes nothing.
-use Rattle.neighbourhood.proofs.Empty.{blank_none, blank_more, blank_all}
-use native.Mathlib.Nat.{mul-le-mul, mul-le-mul_right}
+use Rattle.neighbourhood.proofs.Empty.{blank_more, blank_all}
+use native.Mathlib.Nat.{mul-le-mul_right}
 use native.Mathlib.Omega.{arith}
 use Prim.Native.Nat.{suc, ◌*◌, ◌≤◌}
 use Rattle.model.specs.Labels.{counts}

@@ -1,6 +1,6 @@
 -- `neighbourhood::step_slots`: one step of the search's layers for each slot. Assumes nothing.
 use Rattle.neighbourhood.proofs.Slots.{bank_low, slot_low, slot_place, place_is}
-use Rattle.neighbourhood.proofs.Steps.{stepping_none, ready_as, more_as, stepping_all}
+use Rattle.neighbourhood.proofs.Steps.{ready_as, more_as}
 use Rattle.layer.proofs.Next.{shape_small}
 use native.Mathlib.Omega.{arith}
 use native.Mathlib.Numerals.{add-one}

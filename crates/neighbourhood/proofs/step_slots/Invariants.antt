@@ -1,6 +1,5 @@
 -- `neighbourhood::step_slots`: one step of the search's layers for each slot. Assumes nothing.
 use Rattle.neighbourhood.proofs.Steps.{Stepping}
-use Prim.Native.Nat.{◌-◌, ◌≤◌}
 use Rattle.neighbourhood.proofs.step_slots.Given as goal
 
 abbrev pub invariant-loop-i : goal.invariant-loop-i

@@ -3,7 +3,6 @@ use Rattle.saved.specs.Walk.{limit, table_size}
 use Rattle.saved.specs.Packed.{Inside}
 use lib.ListN.{length}
 use mathlib.Core.Path.{◌≡◌}
-use Prim.Native.Nat.{◌+◌, ◌-◌, ◌≤◌}
 use Rattle.windows.proofs.each_part.Given as goal
 
 abbrev pub invariant-loop-a : goal.invariant-loop-a
