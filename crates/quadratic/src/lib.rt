@@ -103,15 +103,8 @@ fn place(m: i64, x: u64, y: u64) -> u64
     requires { (x ≤ y) × (y < 262144) }
     ensures { Placed m x y result }
 {
-    let low = less(x, 163840);
-    let high = less(y, 163840);
-    if m < low {
-        x
-    } else if high < m {
-        y
-    } else {
-        (m + 163840) as u64
-    }
+    let level = m.clamp(less(x, 163840), less(y, 163840));
+    (level + 163840) as u64
 }
 
 // (p - q) / d is computed on signed levels and rounded down: its place, or the end of [x, y] that is nearest to it. The division is the
