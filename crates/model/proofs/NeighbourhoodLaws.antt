@@ -206,11 +206,11 @@ module _ (P : Plan) (zs : List ℤ) (accepts : search_number P (length zs) ≡ 0
         none_at (some b) e p g a q = let z : ◌≡◌ {A = ℕ} 0 1 = cc in omega arith
 
   module _ (R : Ready P zs) where
-    pub entry_by : (k : ℕ) → entry_of (listed_with P zs k) ≡ entry_of (reported (least_end_at P (total_at P zs (length zs) (suc k))))
+    pub entry_by : (k : ℕ) → listed_with P zs k ≡ reported (least_end_at P (total_at P zs (length zs) (suc k)))
     entry_by k =
         let H = total_at P zs (length zs) (suc k) in
         let h = least_end_of_lem P (last k) H (total_held P zs R (length zs) (suc k) R.some_readings R.few_readings) in
-        ap entry_of (last_listed k ∙ ap (map value) (sym h) ∙ held_value (least_end_at P H))
+        last_listed k ∙ ap (map value) (sym h) ∙ held_value (least_end_at P H)
 
 least_of_low : (cs : List ℕ) (k : ℕ) → k < length cs → least_of cs ≤ get_or cs k 0
 unfolding least_of

@@ -9,6 +9,9 @@ use native.Mathlib.Numerals.{add-one}
 use lib.Dec.{leb}
 use borrow.Author.Tests.{leb-true, leb-false}
 use lib.IntN.{ℤ}
+use Rattle.std.specs.Prelude.{Option, Some, None}
+use Rattle.std.proofs.Math.Option as M
+use Rattle.std.specs.Option.{is_some, unwrap_or}
 use lib.ListN.{length, get_or, take, drop, set, length-set, take-append-drop}
 use lib.Seq.{take-suc, take-suc-set, drop-set-lt, drop-drop}
 use Rattle.plan.specs.declared.Plan.{Plan}
@@ -17,8 +20,9 @@ use Rattle.model.proofs.Labels.{used_some}
 use Rattle.model.specs.Refusals.{search_number}
 use Rattle.model.proofs.Checked.{built_search}
 use Rattle.integers.specs.Pairs.{unit}
+use Rattle.integers.specs.Rep.{le_or_lt}
 use Rattle.quadratic.specs.Quad.{none, count_limit}
-use Rattle.model.specs.Index.{reported}
+use Rattle.model.specs.Index.{reported, no_cost}
 use Rattle.model.proofs.Index.{reported_some, reported_none}
 use Rattle.model.specs.Held.{Table, Holding}
 use Rattle.model.specs.Ends.{table_at, least_end_at}
@@ -40,7 +44,7 @@ use Rattle.search.specs.ToldCosts as F
 use Rattle.search.specs.Cheapest.{Reaches}
 use Rattle.search.specs.Costs.{filled_of, costs_after, costs_looked}
 use Rattle.neighbourhood.specs.Slots.{place_of, slot_of, table_limit, Ground, Slots}
-use Rattle.neighbourhood.specs.Fill.{Put, Decided, FilledTo}
+use Rattle.neighbourhood.specs.Fill.{entry_told, Put, Decided, FilledTo}
 use Rattle.neighbourhood.proofs.Slots.{slot_layer}
 
 -- ---- one entry
@@ -54,11 +58,32 @@ module _ {P : Plan} {H : Table} {r : End} (few-changes : r.low.rank.changes ≤ 
   cost_is : r.low.rank.value ≡ least_end_at P H / unit
   cost_is = omega (arith, least_is)
 
-  pub entry_cost : r.low.rank.value < none → r.low.rank.value ≡ entry_of (reported (least_end_at P H))
-  entry_cost h = cost_is ∙ ap entry_of (sym (reported_some (least_end_at P H) (omega (arith, least_is))))
+  pub entry_cost : r.low.rank.value < none → M.some r.low.rank.value ≡ reported (least_end_at P H)
+  entry_cost h = ap M.some cost_is ∙ sym (reported_some (least_end_at P H) (omega (arith, least_is)))
 
-  pub entry_none : none ≤ r.low.rank.value → most_word ≡ entry_of (reported (least_end_at P H))
-  entry_none h = ap entry_of (sym (reported_none (least_end_at P H) (omega (arith, least_is))))
+  pub entry_none : none ≤ r.low.rank.value → M.none ≡ reported (least_end_at P H)
+  entry_none h = sym (reported_none (least_end_at P H) (omega (arith, least_is)))
+
+-- a cost that is reported is not the largest number
+some_entry : (v c : ℕ) → M.some c ≡ reported v → entry_of (reported v) ≡ most_word → ⊥
+some_entry v c e q = ⊎_elim
+    (λ h. absurd (M.some-ne-none c (e ∙ reported_none v h)))
+    (λ h. let z = ap entry_of (sym (reported_some v h)) ∙ q in let x : ◌≡◌ {A = ℕ} 0 1 = omega (arith, z) in absurd (omega (arith, x)))
+    (le_or_lt no_cost v)
+
+-- the number in the list
+entry_word : (r : Option ℕ) → unwrap_or r most_word ≡ entry_of (entry_told r)
+entry_word None = refl
+entry_word (Some c) = refl
+
+some_of : (r : Option ℕ) → is_some r ≡ true → (c : ℕ) × (r ≡ Some c)
+some_of None e = absurd (let z : ◌≡◌ {A = ℕ} 0 1 = cc in omega arith)
+some_of (Some c) e = (c, refl)
+
+-- what is found for k changes: the number for the list, and whether it is a cost
+pub record Entry (P : Plan) (zs : List ℤ) (k : ℕ) (c : Option ℕ) : Type 0 where
+  pub word : unwrap_or c most_word ≡ entry_of (listed_with P zs k)
+  pub cost : (x : ℕ) → c ≡ Some x → entry_of (listed_with P zs k) ≡ most_word → ⊥
 
 module _ {P : Plan} {zs : List ℤ} {most : ℕ} {g : Shape} {ws : List ℕ} (a : Ground P zs most g ws) {b : ℕ} (m : Slots P zs most (length zs) b ws) (k : ℕ) (hk : k ≤ most) {o : ℕ} (e : o ≡ place_of P (slot_of b (suc k) (length zs))) where
   layer_here : LayerOf P (length zs) (total_at P zs (length zs) (suc k)) ws o
@@ -67,8 +92,11 @@ module _ {P : Plan} {zs : List ℤ} {most : ℕ} {g : Shape} {ws : List ℕ} (a 
   pub may_read : o ≤ place_most → Readable 1 o g ws × ShapeOf P g
   may_read h = (readable_fewer (used_some (label_on P (length zs))) (layer_readable a.task layer_here h a.task.ready.few_readings), a.task.shape)
 
-  pub entry_is : {c : ℕ} → ((H : Table) → Reads 1 o g ws H → c ≡ entry_of (reported (least_end_at P H))) → c ≡ entry_of (listed_with P zs k)
-  entry_is f = f (total_at P zs (length zs) (suc k)) (reads_fewer (used_some (label_on P (length zs))) (layer_reads a.task layer_here)) ∙ sym (entry_by P zs a.accepts a.task.ready k)
+  pub entry_is : {c : Option ℕ} → ((H : Table) → Reads 1 o g ws H → entry_told c ≡ reported (least_end_at P H)) → Entry P zs k c
+  entry_is {c} f =
+      let e = f (total_at P zs (length zs) (suc k)) (reads_fewer (used_some (label_on P (length zs))) (layer_reads a.task layer_here)) in
+      let l = entry_by P zs a.accepts a.task.ready k in
+      record { word = entry_word c ∙ ap entry_of (e ∙ sym l); cost = λ x p q. some_entry _ x (ap entry_told (sym p) ∙ e) (ap entry_of (sym l) ∙ q) }
 
 -- ---- all of them
 
@@ -82,17 +110,20 @@ pub entered_none : (P : Plan) (zs : List ℤ) (most : ℕ) (list : List ℕ) →
 unfolding entries
 entered_none P zs most list = record { size = refl; done = refl; some = λ h. let z : ◌≡◌ {A = ℕ} 0 1 = cc in absurd (omega arith) }
 
-module _ {P : Plan} {zs : List ℤ} {most k c : ℕ} {r : Bool} {list list' : List ℕ} (m : Entered P zs most k r list list') (h : k < length list') (e : c ≡ entry_of (listed_with P zs k)) where
+module _ {P : Plan} {zs : List ℤ} {most k c : ℕ} {o : Option ℕ} {r : Bool} {list list' : List ℕ} (m : Entered P zs most k r list list') (h : k < length list') (e : Entry P zs k o) (w : c ≡ unwrap_or o most_word) where
   entered_done : take (k + 1) (set list' k c) ≡ entries P zs (k + 1)
   unfolding entries
-  entered_done = subst (λ (x : ℕ). take x (set list' k c) ≡ entries P zs x) (sym (add-one k)) (take-suc-set list' k c h ∙ ap (λ (x : List ℕ). x ++ (c ∷ [])) m.done ∙ ap (λ (x : ℕ). entries P zs k ++ (x ∷ [])) e)
+  entered_done = subst (λ (x : ℕ). take x (set list' k c) ≡ entries P zs x) (sym (add-one k)) (take-suc-set list' k c h ∙ ap (λ (x : List ℕ). x ++ (c ∷ [])) m.done ∙ ap (λ (x : ℕ). entries P zs k ++ (x ∷ [])) (w ∙ e.word))
+
+  some_cost : is_some o ≡ true → entry_of (listed_with P zs k) ≡ most_word → ⊥
+  some_cost p = let (x, q) = some_of o p in e.cost x q
 
   -- whether one is a cost is known after each of them
-  pub entered_more : search_number P (length zs) ≡ 0 → {x : Bool} → ((c ≡ most_word → ⊥) × (x ≡ true)) ⊎ (x ≡ r) → Entered P zs most (k + 1) x list (set list' k c)
+  pub entered_more : search_number P (length zs) ≡ 0 → {x : Bool} → ((is_some o ≡ true) × (x ≡ true)) ⊎ (x ≡ r) → Entered P zs most (k + 1) x list (set list' k c)
   entered_more accepts q = record {
     size = length-set list' k c ∙ m.size;
     done = entered_done;
-    some = λ t. ⊎_elim (λ p. table_entry P zs most (built_search P (length zs) accepts) k (λ z. p.0 (e ∙ z))) (λ p. m.some (sym p ∙ t)) q;
+    some = λ t. ⊎_elim (λ p. table_entry P zs most (built_search P (length zs) accepts) k (some_cost p.0)) (λ p. m.some (sym p ∙ t)) q;
   }
 
 pub entered_all : {P : Plan} {zs : List ℤ} {most k : ℕ} {r : Bool} {list list' : List ℕ} → k ≡ suc most → Entered P zs most k r list list' → Put P zs most r list list'

@@ -1,5 +1,6 @@
 -- The table itself, once no refusal before 16 applies. Assumes nothing.
-use Rattle.std.specs.Prelude.{◌≡◌, List, Bool, true, false, ℕ, suc, ◌≤◌, ℤ, length, take}
+use Rattle.std.specs.Prelude.{◌≡◌, List, Bool, true, false, ℕ, suc, ◌≤◌, ℤ, length, take, Option, Some, None}
+use Rattle.std.proofs.Math.Option as M
 use Rattle.plan.specs.declared.Plan.{Plan}
 use Rattle.model.specs.Result.{cost_list, no_costs}
 use Rattle.model.specs.Neighbourhood.{entries, table_of}
@@ -8,6 +9,11 @@ use Rattle.saved.specs.Packed.{Inside}
 use Rattle.search.specs.ToldCosts.{Filled}
 use Rattle.search.specs.Costs.{FilledBy}
 use Rattle.neighbourhood.specs.Slots.{table_limit, Ground}
+
+-- a cost or none, as the model has it
+abbrev pub entry_told : Option ℕ → M.Option ℕ
+entry_told None = M.none
+entry_told (Some c) = M.some c
 
 -- the entries stand at the front of a list; where one is a cost the answer is not 16
 pub record Put (P : Plan) (zs : List ℤ) (most : ℕ) (r : Bool) (list list' : List ℕ) : Type 0 where

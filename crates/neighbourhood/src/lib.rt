@@ -12,14 +12,14 @@ ghost use Rattle.model.specs.Held.{Table};
 ghost use Rattle.model.specs.Ends.{least_end_at};
 ghost use Rattle.model.specs.Result.{cost_list};
 ghost use Rattle.model.specs.Index.{reported};
-ghost use Rattle.model.specs.Neighbourhood.{entry_of, entries, table_of};
+ghost use Rattle.model.specs.Neighbourhood.{entries, table_of};
 ghost use Rattle.layer.specs.Layer.{Shape-small, ShapeOf, place_most, layer_cell};
 ghost use Rattle.back.specs.Read.{Readable, Reads};
 ghost use Rattle.search.specs.ToldCosts.{filled_told};
 ghost use Rattle.search.specs.Costs.{filled_of, costs_after};
 ghost use Rattle.neighbourhood.specs.Neighbourhood.{table_result, table_words_after};
 ghost use Rattle.neighbourhood.specs.Slots.{slots_most, slot_of, Emptied, Slots, Ground, Banks, StepTo, ForwardTo};
-ghost use Rattle.neighbourhood.specs.Fill.{Put, Decided, Fillable, FilledTo};
+ghost use Rattle.neighbourhood.specs.Fill.{entry_told, Put, Decided, Fillable, FilledTo};
 
 use curve::Rank;
 use layer::{Origin, Problem, Shape};
@@ -28,7 +28,7 @@ use plan::{Plan, Refusal};
 // How many entries a table has at most: one for each number of changes from 0 on.
 const ENTRIES: usize = Plan::MAX_CHANGES + 1;
 
-// The entry of a number of changes that no allowed segmentation has: the largest number.
+// The number in the caller's list for a number of changes that no allowed segmentation has: the largest one.
 const NO_COST: u64 = 18446744073709551615;
 
 // The place that comes after n layers.
@@ -106,16 +106,16 @@ fn forward(ws: &mut [u64], problem: &Problem, most: usize) -> usize
     from
 }
 
-// The least cost of the layer at o in the end set, the largest number where there is none.
-fn entry(ws: &[u64], plan: &Plan, o: usize, g: Shape) -> u64
+// The least cost of the layer at o in the end set.
+fn entry(ws: &[u64], plan: &Plan, o: usize, g: Shape) -> Option<u64>
     requires { Readable 1 o g ws.now × ShapeOf plan.now g }
-    ensures { (H : Table) → Reads 1 o g ws.now H → result ≡ entry_of (reported (least_end_at plan.now H)) }
+    ensures { (H : Table) → Reads 1 o g ws.now H → entry_told result ≡ reported (least_end_at plan.now H) }
 {
     let least = back::best_end(ws, plan, o, g).low.rank.value;
-    if least < quadratic::NONE {
-        return least;
+    if quadratic::NONE <= least {
+        return None;
     }
-    NO_COST
+    Some(least)
 }
 
 // The entries, at the front of a list, and whether one of them is a cost.
@@ -128,8 +128,8 @@ fn put_entries(ws: &[u64], problem: &Problem, most: usize, bank: usize, list: &m
     for k in 0..most + 1 {
         let o = place_of(problem.shape, slot_of(bank, k + 1, n));
         let cost = entry(ws, problem.plan, o, problem.shape);
-        list[k] = cost;
-        if cost != NO_COST {
+        list[k] = cost.unwrap_or(NO_COST);
+        if cost.is_some() {
             some = true;
         }
     }

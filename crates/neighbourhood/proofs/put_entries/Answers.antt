@@ -4,12 +4,12 @@ use Rattle.neighbourhood.proofs.Entries.{may_read, entry_is, entered_none, enter
 use Rattle.layer.proofs.Next.{shape_small}
 use native.Mathlib.Omega.{arith}
 use native.Mathlib.Numerals.{add-one}
-use mathlib.Core.Path.{◌∙◌, ap}
+use mathlib.Core.Path.{◌∙◌, ap, sym}
 use mathlib.Core.Logic.{inl, inr}
 use Prim.Native.Nat.{ℕ, ◌+◌}
 use lib.ListN.{length}
 use Rattle.neighbourhood.specs.Slots.{slot_of}
-use Rattle.neighbourhood.proofs.put_entries.Goals.{then-cost, else-cost}
+use Rattle.neighbourhood.proofs.put_entries.Goals.{then-is_some, else-is_some}
 use Rattle.neighbourhood.proofs.put_entries.Goals as goal
 
 pub loop-k-init : goal.loop-k-init
@@ -22,4 +22,4 @@ pub entry-cost-requires : goal.entry-cost-requires
 entry-cost-requires c = may_read c.requires.0 c.requires.1.0 c.loop-k.k (omega (arith, c.loop-k-test.true)) (slot_place c.requires.0 c.args.bank _ (length c.args.problem.now.readings.now) (c.slot_of.ensures ∙ ap (λ (x : ℕ). slot_of c.args.bank x (length c.args.problem.now.readings.now)) (add-one c.loop-k.k)) c.place_of-o.ensures) c.place_of-o.ensures.1
 
 pub loop-k-preserved : goal.loop-k-preserved
-loop-k-preserved c = entered_more c.loop-k.invariant (omega (arith, c.loop-k-test.true, c.requires.1.1.1, c.loop-k.invariant.size)) (entry_is c.requires.0 c.requires.1.0 c.loop-k.k (omega (arith, c.loop-k-test.true)) (slot_place c.requires.0 c.args.bank _ (length c.args.problem.now.readings.now) (c.slot_of.ensures ∙ ap (λ (x : ℕ). slot_of c.args.bank x (length c.args.problem.now.readings.now)) (add-one c.loop-k.k)) c.place_of-o.ensures) c.entry-cost.ensures) c.requires.0.accepts (elim c.if-cost.branch [ then-cost w ↦ inl (w.if-cost.true, w.some-is) | else-cost w ↦ inr w.some-is ])
+loop-k-preserved c = entered_more c.loop-k.invariant (omega (arith, c.loop-k-test.true, c.requires.1.1.1, c.loop-k.invariant.size)) (entry_is c.requires.0 c.requires.1.0 c.loop-k.k (omega (arith, c.loop-k-test.true)) (slot_place c.requires.0 c.args.bank _ (length c.args.problem.now.readings.now) (c.slot_of.ensures ∙ ap (λ (x : ℕ). slot_of c.args.bank x (length c.args.problem.now.readings.now)) (add-one c.loop-k.k)) c.place_of-o.ensures) c.entry-cost.ensures) c.unwrap_or.ensures c.requires.0.accepts (elim c.if-is_some.branch [ then-is_some w ↦ inl (sym c.is_some.ensures ∙ w.if-is_some.true, w.some-is) | else-is_some w ↦ inr w.some-is ])
