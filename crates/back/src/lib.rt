@@ -122,7 +122,7 @@ pub fn step_back(
     ensures { (H : Table) → Reads (used (label_of boundary.label)) cur problem.now.shape ws.now H → StepTo problem.now.plan.now boundary.t H key.count key.state j (rank_of want) result }
 {
     for i in 0..problem.plan.edgecount {
-        let e = coded::edge_in(problem.code, i);
+        let e = coded::edge_in(&problem.code, i);
         let low = offer_of(ws, e, boundary, cur, key, j, problem.shape);
         let pen = plan::penalty_of(e.class);
         let ch = labels::change_of(e.kind) as u64;

@@ -1,5 +1,5 @@
-// The edges and labels of a plan as numbers in a lent list, one number each, and how many there are. What a search looks up at every reading stands in
-// such a list, so that a step reads nothing of the plan itself, which has 672 bytes.
+// The edges and labels of a plan as numbers in a list, one number each, and how many there are. What a search looks up at every reading stands in
+// such a list. A step could as well read the plan that it is lent; the list stays because the edits in must-fail speak of its numbers.
 #![tactic(auto)]
 
 ghost use Rattle.std.specs.Prelude.{◌≡◌, ◌+◌, ◌<◌, length, get_or};
@@ -12,7 +12,7 @@ const COUNTS_AT: usize = Plan::MAX_EDGES + Plan::MAX_LABELS;
 
 pub const SIZE: usize = COUNTS_AT + 2;
 
-// The kind with this number, at this gap. A number that no kind has stands in no list that `put_plan` wrote; it is read as stay.
+// The kind with this number, at this gap. A number that no kind has stands in no list that `code_of` made; it is read as stay.
 fn kind_with(number: u8, gap: u16) -> Kind
     ensures { result ≡ kind_with number gap }
 {
@@ -116,12 +116,13 @@ fn put_counts(plan: Plan, code: &mut [u64])
     code[COUNTS_AT + 1] = plan.labelcount as u64;
 }
 
-// The edges and labels of a plan, put in a list.
-pub fn put_plan(plan: Plan, code: &mut [u64])
-    requires { length code.old ≡ 98 }
-    ensures { Written plan code.new }
+// The edges and labels of a plan as a list of numbers.
+pub fn code_of(plan: Plan) -> [u64; SIZE]
+    ensures { Written plan result }
 {
-    put_edges(plan, code);
-    put_labels(plan, code);
-    put_counts(plan, code);
+    let mut code = [0; SIZE];
+    put_edges(plan, &mut code);
+    put_labels(plan, &mut code);
+    put_counts(plan, &mut code);
+    code
 }

@@ -10,8 +10,8 @@ use plan::Plan;
 #[derive(Clone, Copy)]
 pub struct Problem<'a> {
     pub plan: &'a Plan,
-    pub code: &'a [u64],
+    pub code: [u64; coded::SIZE],
     pub readings: &'a [i16],
     pub shape: Shape,
-    pub ghost coded: { Coded plan.now code.now },
+    pub ghost coded: { Coded plan.now code },
 }

@@ -170,12 +170,10 @@ fn fill(
     requires { Fillable plan readings.now most g ws.old costs.old }
     ensures { FilledTo plan readings.now most (filled_told result) ws.old ws.new costs.old costs.new }
 {
-    let mut code = [0u64; coded::SIZE];
     let mut list = [0u64; ENTRIES];
-    coded::put_plan(plan, &mut code);
     let problem = Problem {
         plan: &plan,
-        code: &code,
+        code: coded::code_of(plan),
         readings,
         shape: g,
     };

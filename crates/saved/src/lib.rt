@@ -48,7 +48,7 @@ fn lists_at(problem: &Problem, t: usize) -> usize
     requires { Checked problem.now.plan.now × (ShapeOf problem.now.plan.now problem.now.shape) }
     ensures { (result ≡ used_at problem.now.plan.now t * problem.now.plan.now.states) × (result ≤ 8 * counts) }
 {
-    labels::counts_at(problem.plan, problem.code, t) * problem.shape.states
+    labels::counts_at(problem.plan, &problem.code, t) * problem.shape.states
 }
 
 // The n lists from o on, packed from at on: where they end, or none where they would reach past limit.

@@ -68,7 +68,7 @@ pub fn step(
     requires { StepReady problem.now.plan.now problem.now.readings.now t cur problem.now.shape from ws.now out.old }
     ensures { StepMade problem.now.plan.now problem.now.readings.now t from result out.old out.new }
 {
-    let label = labels::label_on(problem.plan, problem.code, t);
+    let label = labels::label_on(problem.plan, &problem.code, t);
     let boundary = Boundary { t, label };
     let u = integers::bias(problem.readings[t]);
     let level = from.low.level;
@@ -80,7 +80,7 @@ pub fn step(
     let Some(found) = back::step_back(ws, problem, boundary, cur, from.key, level, want) else {
         return from;
     };
-    let e = coded::edge_in(problem.code, found.edge);
+    let e = coded::edge_in(&problem.code, found.edge);
     let key = Key {
         count: labels::count_before(boundary, e.kind, from.key.count),
         state: e.from as usize,

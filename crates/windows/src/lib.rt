@@ -55,11 +55,9 @@ fn fill(
     ensures { FilledTo plan «record».now w (filled_told result) ws.old ws.new costs.old costs.new }
 {
     let mut table = [0usize; saved::TABLE];
-    let mut code = [0u64; coded::SIZE];
-    coded::put_plan(plan, &mut code);
     let problem = Problem {
         plan: &plan,
-        code: &code,
+        code: coded::code_of(plan),
         readings: record,
         shape: g,
     };

@@ -3,7 +3,7 @@ use Rattle.search.proofs.Points.{place_high, may_ask, told_none, told_least}
 use Rattle.search.proofs.solve_point.Goals as goal
 
 pub counts_at-n-requires : goal.counts_at-n-requires
-counts_at-n-requires c = (c.requires.space.task.ready.plan, c.put_plan.ensures.coded)
+counts_at-n-requires c = (c.requires.space.task.ready.plan, c.code_of.ensures.coded)
 
 pub overflow_sub-index : goal.overflow_sub-index
 overflow_sub-index c = place_high c.args.plan c.args.readings.now c.args.state c.args.level c.requires _ (place_is c.args.level _ c.ranges.level.sfits c.bias.ensures.0)
