@@ -97,7 +97,7 @@ fn read_runs(s: &[u8], cost: u64, at: usize) -> Result<AnswerFile, Refusal>
     loop {
         let f = fields::read_field(s, i, 6);
         let Field::Body { start, len, .. } = f else {
-            return Err(f.refusal());
+            return Err(f.refusal().unwrap());
         };
         let b = fields::field_body(s, f);
         if !body_fits(prev, b) {
@@ -126,7 +126,7 @@ fn read_refusal(s: &[u8], at: usize, b: &[u8]) -> Result<AnswerFile, Refusal>
     }
     let f = fields::read_field(s, at, 4);
     let Field::Body { .. } = f else {
-        return Err(f.refusal());
+        return Err(f.refusal().unwrap());
     };
     Err(Refusal::TagOutOfPlace)
 }
@@ -137,7 +137,7 @@ fn read_file(s: &[u8]) -> Result<AnswerFile, Refusal>
 {
     let f = fields::read_field(s, 0, 5);
     let Field::Body { tag, start, len } = f else {
-        return Err(f.refusal());
+        return Err(f.refusal().unwrap());
     };
     let b = fields::field_body(s, f);
     if tag == 0x81 {
