@@ -157,11 +157,12 @@ fn put_run(runs: &mut [i32], at: usize, b: &[u8])
     runs[at..at + 5].copy_from_slice(&[first, last, i32::from(b[4]), level, i32::from(b[7])]);
 }
 
-fn fill_runs(s: &[u8], n: usize, runs: &mut [i32])
-    requires { (11 + 11 * n ≤ length s.now) × (5 * n ≤ length runs.old) }
-    ensures { runs.new ≡ runs_of s.now n ++ drop (5 * n) runs.old }
+// The numbers of as many runs of a file as the list has room for.
+fn fill_runs(s: &[u8], runs: &mut [i32])
+    requires { 11 + 11 * (length runs.old / 5) ≤ length s.now }
+    ensures { runs.new ≡ runs_of s.now (length runs.old / 5) ++ drop (5 * (length runs.old / 5)) runs.old }
 {
-    for i in 0..n {
+    for i in 0..runs.len() / 5 {
         put_run(runs, 5 * i, fields::part(s, 14 + 11 * i, 8));
     }
 }
@@ -176,7 +177,7 @@ pub fn read_answer(s: &[u8], runs: &mut [i32]) -> Result<AnswerFile, Refusal>
         if runs.len() / 5 < count {
             return Err(Refusal::ListTooShort);
         }
-        fill_runs(s, count, runs);
+        fill_runs(s, &mut runs[..5 * count]);
     }
     Ok(file)
 }
@@ -217,12 +218,11 @@ fn run_ok(runs: &[i32], i: usize, prev: u32) -> bool
     run_fits(prev, first, last, state, edge) && level_fits(runs[5 * i + 3])
 }
 
-fn runs_ok(runs: &[i32], n: usize) -> bool
-    requires { 5 * n ≤ length runs.now }
-    ensures { result ≡ runs_ok runs.now n }
+fn runs_ok(runs: &[i32]) -> bool
+    ensures { result ≡ runs_ok runs.now (length runs.now / 5) }
 {
     let mut prev: u32 = 0;
-    for i in 0..n {
+    for i in 0..runs.len() / 5 {
         if !run_ok(runs, i, prev) {
             return false;
         }
@@ -237,11 +237,10 @@ fn check_answer(runs: &[i32], room: usize) -> Result<(), Refusal>
     ensures { number_of result ≡ answer_number runs.now room }
 {
     let numbers = runs.len();
-    let n = numbers / 5;
-    if numbers == 0 || numbers % 5 != 0 || !runs_ok(runs, n) {
+    if numbers == 0 || numbers % 5 != 0 || !runs_ok(runs) {
         return Err(Refusal::BadAnswer);
     }
-    if room < 11 + 11 * n {
+    if room < 11 + 11 * (numbers / 5) {
         return Err(Refusal::ListTooShort);
     }
     Ok(())
@@ -280,11 +279,11 @@ fn put_run_field(out: &mut [u8], at: usize, runs: &[i32], i: usize)
     fields::put(out, at, &b);
 }
 
-fn put_runs(out: &mut [u8], runs: &[i32], n: usize)
-    requires { (5 * n ≤ length runs.now) × (runs_ok runs.now n ≡ true) × (11 + 11 * n ≤ length out.old) }
-    ensures { out.new ≡ put_at out.old 11 (runs_bytes runs.now n) }
+fn put_runs(out: &mut [u8], runs: &[i32])
+    requires { (runs_ok runs.now (length runs.now / 5) ≡ true) × (11 + 11 * (length runs.now / 5) ≤ length out.old) }
+    ensures { out.new ≡ put_at out.old 11 (runs_bytes runs.now (length runs.now / 5)) }
 {
-    for i in 0..n {
+    for i in 0..runs.len() / 5 {
         put_run_field(out, 11 + 11 * i, runs, i);
     }
 }
@@ -295,10 +294,9 @@ pub fn write_answer(cost: u64, runs: &[i32], out: &mut [u8]) -> Result<usize, Re
     ensures list { out.new ≡ after_answer cost runs.now out.old }
 {
     check_answer(runs, out.len())?;
-    let n = runs.len() / 5;
     put_cost(out, cost);
-    put_runs(out, runs, n);
-    Ok(11 + 11 * n)
+    put_runs(out, runs);
+    Ok(11 + 11 * (runs.len() / 5))
 }
 
 // Writes the answer file of a refusal to the front of out.
