@@ -14,7 +14,7 @@ ghost use Rattle.answers.specs.Writer.{run_field, runs_bytes, answer_bytes, refu
 use fields::Field;
 use plan::{Plan, Refusal};
 
-// What an answer file holds: a cost and how many runs, or a refusal.
+// What an answer file holds: a cost and how many runs, or a refusal. An enum and not a Result: both are files that are accepted.
 #[derive(Clone, Copy)]
 pub enum AnswerFile {
     Runs { cost: u64, count: usize },
@@ -94,6 +94,7 @@ fn read_runs(s: &[u8], cost: u64, at: usize) -> Result<AnswerFile, Refusal>
     let mut i = at;
     let mut prev: u32 = 0;
     let mut count: usize = 0;
+    // a `loop`, since no index is counted: each field says where the next one starts
     loop {
         let f = fields::read_field(s, i, 6);
         let Field::Body { start, len, .. } = f else {
@@ -128,6 +129,7 @@ fn read_refusal(s: &[u8], at: usize, b: &[u8]) -> Result<AnswerFile, Refusal>
     let Field::Body { .. } = f else {
         return Err(f.refusal().unwrap());
     };
+    // never reached: no tag may stand at stage 4
     Err(Refusal::TagOutOfPlace)
 }
 
@@ -162,6 +164,7 @@ fn fill_runs(s: &[u8], runs: &mut [i32])
     requires { 11 + 11 * (length runs.old / 5) ≤ length s.now }
     ensures { runs.new ≡ runs_of s.now (length runs.old / 5) ++ drop (5 * (length runs.old / 5)) runs.old }
 {
+    // by index: what a list holds after pieces of it were lent by chunks_exact_mut is not known
     for i in 0..runs.len() / 5 {
         put_run(runs, 5 * i, fields::part(s, 14 + 11 * i, 8));
     }
@@ -222,6 +225,7 @@ fn runs_ok(runs: &[i32]) -> bool
     ensures { result ≡ runs_ok runs.now (length runs.now / 5) }
 {
     let mut prev: u32 = 0;
+    // by index: the rules speak of run i of the whole list
     for i in 0..runs.len() / 5 {
         if !run_ok(runs, i, prev) {
             return false;
@@ -283,6 +287,7 @@ fn put_runs(out: &mut [u8], runs: &[i32])
     requires { (runs_ok runs.now (length runs.now / 5) ≡ true) × (11 + 11 * (length runs.now / 5) ≤ length out.old) }
     ensures { out.new ≡ put_at out.old 11 (runs_bytes runs.now (length runs.now / 5)) }
 {
+    // by index: the fields are those of run i of the whole list
     for i in 0..runs.len() / 5 {
         put_run_field(out, 11 + 11 * i, runs, i);
     }
@@ -299,7 +304,8 @@ pub fn write_answer(cost: u64, runs: &[i32], out: &mut [u8]) -> Result<usize, Re
     Ok(11 + 11 * (runs.len() / 5))
 }
 
-// Writes the answer file of a refusal to the front of out.
+// Writes the answer file of a refusal to the front of out. It takes a number and not a Refusal: what it promises speaks of every number, of
+// those that it refuses too.
 #[tactic(auto, using(fields::proofs::PutLaws::put_front), unfolding(crate::specs::Writer::refusal_number, fields::specs::Put::outcome, fields::specs::Put::written))]
 pub fn write_refusal(number: u8, out: &mut [u8]) -> Result<usize, Refusal>
     ensures answer { written_of result ≡ refusal_written number (length out.old) }

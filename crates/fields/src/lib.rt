@@ -17,7 +17,8 @@ pub struct Row {
     pub len: usize,
 }
 
-// A field: its tag, where its body starts and how long it is; or the refusal.
+// A field: its tag, where its body starts and how long it is; or the refusal. An enum of its own and not a Result: the readers take a field
+// apart by its name in a `let .. else`, and hand the same field on for its body.
 #[derive(Clone, Copy)]
 pub enum Field {
     Body { tag: u8, start: usize, len: usize },
