@@ -21,20 +21,6 @@ fn show_file(s: &[u8]) {
     hexout::show_written(w, &out);
 }
 
-// Reads and shows one file; false where the input has ended.
-fn next_file() -> bool {
-    let mut buffer = [0u8; 65536];
-    let Some(n) = hexout::read_file(&mut buffer) else {
-        return false;
-    };
-    show_file(&buffer[..n]);
-    true
-}
-
 fn main() {
-    for _ in 0..4096 {
-        if !next_file() {
-            return;
-        }
-    }
+    hexout::each_file(show_file);
 }

@@ -14,7 +14,7 @@ ghost use Rattle.answers.specs.Writer.{run_field, runs_bytes, answer_bytes, refu
 use fields::Field;
 use plan::{Plan, Refusal};
 
-// What an answer file holds: a cost and how many runs, or a refusal.
+// What an answer file holds: a cost and how many runs, or a refusal. An enum and not a Result: both are files that are accepted.
 #[derive(Clone, Copy)]
 pub enum AnswerFile {
     Runs { cost: u64, count: usize },
@@ -94,10 +94,11 @@ fn read_runs(s: &[u8], cost: u64, at: usize) -> Result<AnswerFile, Refusal>
     let mut i = at;
     let mut prev: u32 = 0;
     let mut count: usize = 0;
+    // a `loop`, since no index is counted: each field says where the next one starts
     loop {
         let f = fields::read_field(s, i, 6);
         let Field::Body { start, len, .. } = f else {
-            return Err(f.refusal());
+            return Err(f.refusal().unwrap());
         };
         let b = fields::field_body(s, f);
         if !body_fits(prev, b) {
@@ -126,8 +127,9 @@ fn read_refusal(s: &[u8], at: usize, b: &[u8]) -> Result<AnswerFile, Refusal>
     }
     let f = fields::read_field(s, at, 4);
     let Field::Body { .. } = f else {
-        return Err(f.refusal());
+        return Err(f.refusal().unwrap());
     };
+    // never reached: no tag may stand at stage 4
     Err(Refusal::TagOutOfPlace)
 }
 
@@ -137,7 +139,7 @@ fn read_file(s: &[u8]) -> Result<AnswerFile, Refusal>
 {
     let f = fields::read_field(s, 0, 5);
     let Field::Body { tag, start, len } = f else {
-        return Err(f.refusal());
+        return Err(f.refusal().unwrap());
     };
     let b = fields::field_body(s, f);
     if tag == 0x81 {
@@ -157,11 +159,13 @@ fn put_run(runs: &mut [i32], at: usize, b: &[u8])
     runs[at..at + 5].copy_from_slice(&[first, last, i32::from(b[4]), level, i32::from(b[7])]);
 }
 
-fn fill_runs(s: &[u8], n: usize, runs: &mut [i32])
-    requires { (11 + 11 * n ≤ length s.now) × (5 * n ≤ length runs.old) }
-    ensures { runs.new ≡ runs_of s.now n ++ drop (5 * n) runs.old }
+// The numbers of as many runs of a file as the list has room for.
+fn fill_runs(s: &[u8], runs: &mut [i32])
+    requires { 11 + 11 * (length runs.old / 5) ≤ length s.now }
+    ensures { runs.new ≡ runs_of s.now (length runs.old / 5) ++ drop (5 * (length runs.old / 5)) runs.old }
 {
-    for i in 0..n {
+    // by index: what a list holds after pieces of it were lent by chunks_exact_mut is not known
+    for i in 0..runs.len() / 5 {
         put_run(runs, 5 * i, fields::part(s, 14 + 11 * i, 8));
     }
 }
@@ -176,7 +180,7 @@ pub fn read_answer(s: &[u8], runs: &mut [i32]) -> Result<AnswerFile, Refusal>
         if runs.len() / 5 < count {
             return Err(Refusal::ListTooShort);
         }
-        fill_runs(s, count, runs);
+        fill_runs(s, &mut runs[..5 * count]);
     }
     Ok(file)
 }
@@ -217,12 +221,12 @@ fn run_ok(runs: &[i32], i: usize, prev: u32) -> bool
     run_fits(prev, first, last, state, edge) && level_fits(runs[5 * i + 3])
 }
 
-fn runs_ok(runs: &[i32], n: usize) -> bool
-    requires { 5 * n ≤ length runs.now }
-    ensures { result ≡ runs_ok runs.now n }
+fn runs_ok(runs: &[i32]) -> bool
+    ensures { result ≡ runs_ok runs.now (length runs.now / 5) }
 {
     let mut prev: u32 = 0;
-    for i in 0..n {
+    // by index: the rules speak of run i of the whole list
+    for i in 0..runs.len() / 5 {
         if !run_ok(runs, i, prev) {
             return false;
         }
@@ -237,11 +241,10 @@ fn check_answer(runs: &[i32], room: usize) -> Result<(), Refusal>
     ensures { number_of result ≡ answer_number runs.now room }
 {
     let numbers = runs.len();
-    let n = numbers / 5;
-    if numbers == 0 || numbers % 5 != 0 || !runs_ok(runs, n) {
+    if numbers == 0 || numbers % 5 != 0 || !runs_ok(runs) {
         return Err(Refusal::BadAnswer);
     }
-    if room < 11 + 11 * n {
+    if room < 11 + 11 * (numbers / 5) {
         return Err(Refusal::ListTooShort);
     }
     Ok(())
@@ -280,11 +283,12 @@ fn put_run_field(out: &mut [u8], at: usize, runs: &[i32], i: usize)
     fields::put(out, at, &b);
 }
 
-fn put_runs(out: &mut [u8], runs: &[i32], n: usize)
-    requires { (5 * n ≤ length runs.now) × (runs_ok runs.now n ≡ true) × (11 + 11 * n ≤ length out.old) }
-    ensures { out.new ≡ put_at out.old 11 (runs_bytes runs.now n) }
+fn put_runs(out: &mut [u8], runs: &[i32])
+    requires { (runs_ok runs.now (length runs.now / 5) ≡ true) × (11 + 11 * (length runs.now / 5) ≤ length out.old) }
+    ensures { out.new ≡ put_at out.old 11 (runs_bytes runs.now (length runs.now / 5)) }
 {
-    for i in 0..n {
+    // by index: the fields are those of run i of the whole list
+    for i in 0..runs.len() / 5 {
         put_run_field(out, 11 + 11 * i, runs, i);
     }
 }
@@ -295,13 +299,13 @@ pub fn write_answer(cost: u64, runs: &[i32], out: &mut [u8]) -> Result<usize, Re
     ensures list { out.new ≡ after_answer cost runs.now out.old }
 {
     check_answer(runs, out.len())?;
-    let n = runs.len() / 5;
     put_cost(out, cost);
-    put_runs(out, runs, n);
-    Ok(11 + 11 * n)
+    put_runs(out, runs);
+    Ok(11 + 11 * (runs.len() / 5))
 }
 
-// Writes the answer file of a refusal to the front of out.
+// Writes the answer file of a refusal to the front of out. It takes a number and not a Refusal: what it promises speaks of every number, of
+// those that it refuses too.
 #[tactic(auto, using(fields::proofs::PutLaws::put_front), unfolding(crate::specs::Writer::refusal_number, fields::specs::Put::outcome, fields::specs::Put::written))]
 pub fn write_refusal(number: u8, out: &mut [u8]) -> Result<usize, Refusal>
     ensures answer { written_of result ≡ refusal_written number (length out.old) }

@@ -55,11 +55,6 @@ abbrev pub field_number : Field → ℕ
 field_number (Body t b l) = 0
 field_number (Wrong n) = n
 
--- why a file is refused that goes on with a field: the field's refusal, 2 where it has none
-abbrev pub refused_with : Field → ℕ
-refused_with (Body t b l) = 2
-refused_with (Wrong n) = n
-
 -- the len bytes from start, or nothing where they run past the end
 unfoldable pub part_of : List ℕ → ℕ → ℕ → List ℕ
 part_of s start len = pick (leb (start + len) (length s)) (take len (drop start s)) []

@@ -3,9 +3,8 @@
 
 ghost use Rattle.std.specs.Prelude.{◌≡◌, ◌+◌, ◌-◌, ◌*◌, ◌≤◌, ◌<◌, length, drop, take, ◌++◌};
 ghost use Rattle.integers.specs.Bytes.{word};
-ghost use Rattle.fields.specs.Fields.{row, row_of, may_stand, length_fits, count_fits, field_at, refused_with, part_of, field_body, put_at, number8};
-ghost use Rattle.fields.specs.Told.{field_of};
-ghost use Rattle.plan.specs.Refusals.{refusal_number};
+ghost use Rattle.fields.specs.Fields.{row, row_of, may_stand, length_fits, count_fits, field_at, field_number, part_of, field_body, put_at, number8};
+ghost use Rattle.fields.specs.Told.{field_of, refusal_in, told_number};
 
 use plan::Refusal;
 
@@ -18,7 +17,8 @@ pub struct Row {
     pub len: usize,
 }
 
-// A field: its tag, where its body starts and how long it is; or the refusal.
+// A field: its tag, where its body starts and how long it is; or the refusal. An enum of its own and not a Result: the readers take a field
+// apart by its name in a `let .. else`, and hand the same field on for its body.
 #[derive(Clone, Copy)]
 pub enum Field {
     Body { tag: u8, start: usize, len: usize },
@@ -26,13 +26,14 @@ pub enum Field {
 }
 
 impl Field {
-    // Why a file is refused that goes on with this field. A field that is not refused stands where none may.
-    pub fn refusal(self) -> Refusal
-        ensures { refusal_number result ≡ refused_with (field_of self) }
+    // Why the field is refused; none where it is not.
+    pub fn refusal(self) -> Option<Refusal>
+        ensures which { result ≡ refusal_in self }
+        ensures number { told_number result ≡ field_number (field_of self) }
     {
         match self {
-            Field::Body { .. } => Refusal::TagOutOfPlace,
-            Field::Wrong(refusal) => refusal,
+            Field::Body { .. } => None,
+            Field::Wrong(refusal) => Some(refusal),
         }
     }
 }

@@ -69,3 +69,16 @@ pub fn read_file(buffer: &mut [u8]) -> Option<usize>
     }
     Some(io::read_full(0, &mut buffer[..n]))
 }
+
+// Gives each file of standard input to a function that shows it, 4,096 files at most.
+pub fn each_file<F: Fn(&[u8])>(show: F)
+    requires { F.IsAlwaysCallable show }
+{
+    let mut buffer = [0u8; 65536];
+    for _ in 0..4096 {
+        let Some(n) = read_file(&mut buffer) else {
+            return;
+        };
+        show(&buffer[..n]);
+    }
+}

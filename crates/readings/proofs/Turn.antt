@@ -1,12 +1,14 @@
 -- One turn of the loops that decode and encode.
 -- Assumes nothing.
-use Prim.Native.Nat.{ℕ, suc, ◌+◌, ◌*◌, ◌/◌, ◌%◌, ◌<◌, ◌≤◌}
+use Prim.Native.Nat.{ℕ, zero, suc, ◌+◌, ◌*◌, ◌/◌, ◌%◌, ◌<◌, ◌≤◌}
 use native.Mathlib.Omega.{arith}
 use mathlib.Core.Path.{◌≡◌, refl, sym, ◌∙◌, ap}
 use mathlib.Core.List.{List, [], ◌∷◌, ◌++◌, append_assoc}
 use lib.ListN.{length, get_or, set, take, drop}
 use lib.Seq.{take-suc, length-take-le}
 use lib.IntN.{ℤ, pos}
+use Rattle.std.proofs.lemmas.List.{get_or-take, get_or-drop}
+use Rattle.std.specs.Simd.{first_chunks}
 use Rattle.integers.specs.Bytes.{word, signed16, bits16}
 use Rattle.readings.specs.Codec.{readings_of, bytes_of}
 use Rattle.readings.proofs.Front.{front_more}
@@ -19,6 +21,12 @@ no_readings out = refl
 pub no_bytes : (out : List ℕ) → out ≡ bytes_of [] ++ out
 unfolding bytes_of
 no_bytes out = refl
+
+-- byte j of pair i of a body, which is the body's byte at p
+pub pair_byte : (k : ℕ) (b : List ℕ) (i j p : ℕ) → i < k → j < 2 → p ≡ 2 * i + j → get_or (get_or (first_chunks 2 k b) i []) j 0 ≡ get_or b p 0
+pair_byte zero b i j p h q e = absurd (omega arith)
+pair_byte (suc k) b zero j p h q e = get_or-take 2 b j 0 q ∙ ap (λ (n : ℕ). get_or b n 0) (omega (arith, e))
+pair_byte (suc k) b (suc i) j p h q e = pair_byte k (drop 2 b) i j (2 * i + j) (omega arith) q refl ∙ get_or-drop 2 b (2 * i + j) 0 ∙ ap (λ (n : ℕ). get_or b n 0) (omega (arith, e))
 
 module _ (b : List ℕ) (i : ℕ) (h : 2 * i + 2 ≤ length b) where
   two_more : take (2 * (i + 1)) b ≡ take (2 * i) b ++ (get_or b (2 * i) 0 ∷ (get_or b (2 * i + 1) 0 ∷ []))

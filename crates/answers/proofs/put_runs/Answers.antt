@@ -12,9 +12,9 @@ pub loop-i-init : goal.loop-i-init
 loop-i-init c = none_put _ _ (omega arith)
 
 pub put_run_field-requires : goal.put_run_field-requires
-put_run_field-requires c = (omega arith, runs_each c.args.runs.now c.args.n c.loop-i.i c.loop-i-test.true c.requires.1)
+put_run_field-requires c = (omega arith, runs_each c.args.runs.now _ c.loop-i.i c.loop-i-test.true c.requires.0)
 
 pub loop-i-preserved : goal.loop-i-preserved
 loop-i-preserved c =
     c.put_run_field.ensures ∙ ap (λ x. put_at x (11 + 11 * c.loop-i.i) (run_field c.args.runs.now c.loop-i.i)) c.loop-i.invariant ∙
-    run_put c.args.out.now c.args.runs.now c.loop-i.i (omega (arith, c.requires.2))
+    run_put c.args.out.now c.args.runs.now c.loop-i.i (omega (arith, c.requires.1))

@@ -4,14 +4,14 @@ use Prim.Native.Nat.{◌+◌}
 use lib.ListN.{length}
 use mathlib.Core.Path.{sym, ◌∙◌, ap}
 use Rattle.fields.proofs.Laws.{field_is}
-use Rattle.fields.specs.Fields.{refused_with, number8}
-use Rattle.fields.specs.Told.{field_of}
+use Rattle.fields.specs.Fields.{field_number, number8}
+use Rattle.fields.specs.Told.{field_of, told_number}
 use Rattle.answers.specs.Reader.{Unread, runs_from, refusal_read}
 use Rattle.answers.proofs.Walk.{head_wrong, head_cost, head_refusal}
 use Rattle.answers.proofs.read_file.Goals as goal
 
 pub returns-in_default : goal.returns-in_default
-returns-in_default c = ap Unread (c.refusal.ensures ∙ ap (λ f. refused_with (field_of f)) c.in_default.is) ∙ head_wrong _ _ (sym c.read_field-f.ensures ∙ ap field_of c.in_default.is)
+returns-in_default c = ap Unread (sym (ap told_number c.unwrap.ensures) ∙ c.refusal.ensures.number ∙ ap (λ f. field_number (field_of f)) c.in_default.is) ∙ head_wrong _ _ (sym c.read_field-f.ensures ∙ ap field_of c.in_default.is)
 
 pub overflow_add-start : goal.overflow_add-start
 overflow_add-start c = let h = field_is _ _ _ (sym c.read_field-f.ensures ∙ ap field_of c.in-Body.is) in omega (arith, h.whole, c.well_formed)

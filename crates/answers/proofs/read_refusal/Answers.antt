@@ -4,8 +4,8 @@ use mathlib.Core.Path.{◌≡◌, refl, sym, ◌∙◌, ap}
 use mathlib.Core.Bool.{true}
 use lib.ListN.{get_or}
 use Rattle.fields.proofs.Tags.{nothing_after}
-use Rattle.fields.specs.Fields.{field_number, refused_with}
-use Rattle.fields.specs.Told.{field_of}
+use Rattle.fields.specs.Fields.{field_number}
+use Rattle.fields.specs.Told.{field_of, told_number}
 use Rattle.answers.specs.Reader.{Refusal, Unread}
 use Rattle.answers.specs.Runs.{is_refusal}
 use Rattle.answers.proofs.Held.{held, not_held}
@@ -29,7 +29,7 @@ returns-then-at-s c =
 pub returns-in_default-f : goal.returns-in_default-f
 returns-in_default-f c =
     let k : is_refusal (get_or c.args.b.now 0 0) ≡ true = ap is_refusal (sym c.in-Ok.ensures) ∙ held c.in-Ok.held in
-    ap Unread (c.refusal.ensures ∙ ap (λ f. refused_with (field_of f)) c.in_default-f.is ∙ sym (ap (λ f. field_number (field_of f)) c.in_default-f.is) ∙ ap field_number c.read_field-f.ensures) ∙ refusal_not_last _ _ _ (omega arith) _ refl k c.if-at-s.false
+    ap Unread (sym (ap told_number c.unwrap.ensures) ∙ c.refusal.ensures.number ∙ ap field_number c.read_field-f.ensures) ∙ refusal_not_last _ _ _ (omega arith) _ refl k c.if-at-s.false
 
 pub returns : goal.returns
 returns c = absurd (nothing_after _ _ (sym c.read_field-f.ensures ∙ ap field_of c.in-Body.is))

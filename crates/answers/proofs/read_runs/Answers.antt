@@ -2,8 +2,8 @@
 use native.Mathlib.Omega.{arith}
 use Rattle.answers.proofs.Walk.{run_wrong, run_breaks, run_last, run_on}
 use Rattle.answers.specs.Reader.{Unread, body_fits, body_last}
-use Rattle.fields.specs.Fields.{refused_with}
-use Rattle.fields.specs.Told.{field_of}
+use Rattle.fields.specs.Fields.{field_number}
+use Rattle.fields.specs.Told.{field_of, told_number}
 use Rattle.fields.proofs.Laws.{field_is}
 use mathlib.Core.Path.{refl, sym, ◌∙◌, ap}
 use lib.ListN.{length}
@@ -20,7 +20,7 @@ pub enum_told-1 : goal.enum_told-1
 enum_told-1 c = omega arith
 
 pub returns-in_default : goal.returns-in_default
-returns-in_default c = ap Unread (c.refusal.ensures ∙ ap (λ f. refused_with (field_of f)) c.in_default.is) ∙ sym (run_wrong _ _ _ _ _ _ _ (omega (arith, c.loop-start.invariant.2.1)) (sym c.read_field-f.ensures ∙ ap field_of c.in_default.is)) ∙ c.loop-start.invariant.2.2
+returns-in_default c = ap Unread (sym (ap told_number c.unwrap.ensures) ∙ c.refusal.ensures.number ∙ ap (λ f. field_number (field_of f)) c.in_default.is) ∙ sym (run_wrong _ _ _ _ _ _ _ (omega (arith, c.loop-start.invariant.2.1)) (sym c.read_field-f.ensures ∙ ap field_of c.in_default.is)) ∙ c.loop-start.invariant.2.2
 
 pub returns-then-not-body_fits : goal.returns-then-not-body_fits
 returns-then-not-body_fits c = sym (run_breaks _ _ _ _ _ _ _ _ (sym c.read_field-f.ensures ∙ ap field_of c.in-Body.is) _ (c.body_fits.ensures ∙ ap (body_fits c.loop-start.prev) c.field_body-b.ensures) _ (omega (arith, c.loop-start.invariant.2.1)) c.if-not-body_fits.true) ∙ c.loop-start.invariant.2.2

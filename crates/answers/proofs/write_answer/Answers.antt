@@ -17,7 +17,7 @@ returns-in_err-check_answer c =
 pub put_runs-requires : goal.put_runs-requires
 put_runs-requires c = let w = answer_room c.args.runs.now (length c.args.out.now) (sym c.in_ok-check_answer.ensures) in
     let l : length c.put_cost.new.out ≡ length c.args.out.now = ap length c.put_cost.ensures ∙ put_length c.args.out.now 0 (field 0x81 (bytes8 c.args.cost)) in
-    (omega arith, w.rules, omega (arith, w.fits))
+    (w.rules, omega (arith, w.fits))
 
 pub returns : goal.returns
 returns c = let w = answer_room c.args.runs.now (length c.args.out.now) (sym c.in_ok-check_answer.ensures) in

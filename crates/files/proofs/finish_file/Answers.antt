@@ -1,8 +1,8 @@
 -- `files::finish_file` meets its contract. Assumes nothing.
 use mathlib.Core.Path.{refl, sym, ◌∙◌, ap}
 use Rattle.fields.proofs.Tags.{nothing_after}
-use Rattle.fields.specs.Fields.{field_number, refused_with}
-use Rattle.fields.specs.Told.{field_of}
+use Rattle.fields.specs.Fields.{field_number}
+use Rattle.fields.specs.Told.{field_of, told_number}
 use Rattle.files.specs.Reader.{refused_file}
 use Rattle.files.proofs.Walk.{file_passed, seal_refused, at_end_lem, after_end}
 use Rattle.files.proofs.finish_file.Goals as goal
@@ -15,7 +15,7 @@ returns-then-at-s c = at_end_lem _ _ _ _ _ c.in_ok-plan.ensures refl c.if-at-s.t
 
 pub returns-in_default : goal.returns-in_default
 returns-in_default c =
-    ap refused_file (c.refusal.ensures ∙ ap (λ f. refused_with (field_of f)) c.in_default.is ∙ sym (ap (λ f. field_number (field_of f)) c.in_default.is) ∙ ap field_number c.read_field-f.ensures) ∙ after_end _ _ _ _ _ c.in_ok-plan.ensures refl c.if-at-s.false
+    ap refused_file (sym (ap told_number c.unwrap.ensures) ∙ c.refusal.ensures.number ∙ ap field_number c.read_field-f.ensures) ∙ after_end _ _ _ _ _ c.in_ok-plan.ensures refl c.if-at-s.false
 
 pub returns : goal.returns
 returns c = absurd (nothing_after _ _ (sym c.read_field-f.ensures ∙ ap field_of c.in-Body.is))

@@ -4,8 +4,8 @@ use Prim.Native.Nat.{◌<◌, ◌+◌}
 use mathlib.Core.Path.{refl, sym, ◌∙◌, ap}
 use lib.ListN.{length}
 use Rattle.fields.proofs.Laws.{field_is}
-use Rattle.fields.specs.Fields.{refused_with}
-use Rattle.fields.specs.Told.{field_of}
+use Rattle.fields.specs.Fields.{field_number}
+use Rattle.fields.specs.Told.{field_of, told_number}
 use Rattle.files.specs.Reader.{refused_file, entry_body}
 use Rattle.files.proofs.Walk.{file_passed, walk_wrong, walk_end, walk_refused, walk_on}
 use Rattle.files.proofs.read_entries.Goals as goal
@@ -15,7 +15,7 @@ loop-tag-init c = (c.requires, (length c.args.s.now + 1, omega arith, refl))
 
 pub returns-in_default : goal.returns-in_default
 returns-in_default c =
-    ap refused_file (c.refusal.ensures ∙ ap (λ f. refused_with (field_of f)) c.in_default.is) ∙
+    ap refused_file (sym (ap told_number c.unwrap.ensures) ∙ c.refusal.ensures.number ∙ ap (λ f. field_number (field_of f)) c.in_default.is) ∙
     sym (walk_wrong _ _ _ _ _ _ (omega (arith, c.loop-tag.invariant.1.1)) (sym c.read_field-f.ensures ∙ ap field_of c.in_default.is)) ∙ c.loop-tag.invariant.1.2
 
 pub finish_file-requires : goal.finish_file-requires
