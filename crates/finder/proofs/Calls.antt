@@ -184,12 +184,3 @@ module _ (s : List ℕ) (r : FileRead) (e : r ≡ plan_file s) where
           let q : given 0 0 (length b / 2) ≡ pick (eqb (readings_number s (length out)) 0) (given 0 0 (length (readings_part s) / 2)) (refused_with (readings_number s (length out))) =
           rw (← number_is, eq-eqb n 0 k) (ap (λ (x : List ℕ). given 0 0 (length x / 2)) part_is) in
           (q ∙ some _ refused_with, list_is)
-
--- ---- what a search gave, written
-
-pub found_fits : (f : Found) (c k room : ℕ) → f ≡ Segmentation c k → runs_in f ≤ room → 5 * k ≤ room
-found_fits f c k room e h = omega (arith, ap runs_in e)
-
-pub found_here : (f : Found) (runs : List ℤ) (out out' : List ℕ) (w : Written) (x : Found) → x ≡ f
-    → (w ≡ found_written x runs (length out)) × (out' ≡ after_found x runs out) → (w ≡ found_written f runs (length out)) × (out' ≡ after_found f runs out)
-found_here f runs out out' w x e (a, b) = (a ∙ ap (λ (y : Found). found_written y runs (length out)) e, b ∙ ap (λ (y : Found). after_found y runs out) e)

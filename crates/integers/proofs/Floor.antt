@@ -13,24 +13,6 @@ use Rattle.integers.specs.Floor.{floor_div}
 abbrev pub Down : ℤ → ℤ → ℤ → Type 0
 Down n d q = ((q *ℤ d) ≤ℤ n) × (n <ℤ ((q +ℤ pos 1) *ℤ d))
 
--- a divisor above zero is `pos b`
-on_pos : (Q : ℤ → Type 0) (d : ℤ) → pos 0 <ℤ d → ((b : ℕ) → 0 < b → Q (pos b)) → Q d
-on_pos Q (pos b) h k = k b (omega (arith, lt_n (nz 0) (nz b) h))
-on_pos Q (negsuc b) h k = absurd h.lt
-
--- what lies in [q d, (q + 1) d) is no other multiple
-one_way : (b : ℕ) (n q r : ℤ) → Down n (pos b) q → Down n (pos b) r → r <ℤ q → ⊥
-one_way b n q r x y l =
-    by_gap⁺ (λ z. Down n (pos b) z → ⊥) r q l
-    (λ i w. omega (arith, lt_n (iz n) ((iz r ⊕ nz 1) ⊗ nz b) y.1, le_n ((iz r ⊕ nz i ⊕ nz 1) ⊗ nz b) (iz n) w.0))
-    x
-
-pub down_one : (n d q r : ℤ) → pos 0 <ℤ d → Down n d q → Down n d r → q ≡ r
-down_one n d q r h = on_pos (λ e. Down n e q → Down n e r → q ≡ r) d h one
-  where
-    one : (b : ℕ) → 0 < b → Down n (pos b) q → Down n (pos b) r → q ≡ r
-    one b l x y = ⊎_elim (λ p. ⊎_elim (λ o. eq_z (iz q) (iz r) (omega (arith, le_n (iz q) (iz r) p, le_n (iz r) (iz q) o))) (λ o. absurd (one_way b n r q y x o)) (le_or_lt_z r q)) (λ p. absurd (one_way b n q r x y p)) (le_or_lt_z q r)
-
 -- the quotient rounded down is the one multiple that the definition names
 pub floor_down : (n d : ℤ) → pos 0 <ℤ d → Down n d (floor_div n d)
 unfolding floor_div

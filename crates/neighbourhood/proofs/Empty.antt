@@ -34,9 +34,6 @@ pub record Blank (L q : ℕ) (ws ws' : List ℕ) : Type 0 where
   pub inside : Inside 0 (q * (4 * L)) ws ws'
   pub list : (p A B base : ℕ) → p < q → Curve A B base L ws' (p * (4 * L)) (λ (j : ℕ). no_cost)
 
-pub blank_none : (L : ℕ) (ws : List ℕ) → Blank L 0 ws ws
-blank_none L ws = record { inside = inside_refl _ _ ws; list = λ p A B base h. absurd (omega arith) }
-
 pub blank_more : {L q : ℕ} {ws ws' ws'' : List ℕ} → Blank L q ws ws' → q * (4 * L) + 4 * L ≤ length ws' → Made (λ (j : ℕ). absent) ws' ws'' (q * (4 * L)) L → Blank L (q + 1) ws ws''
 blank_more {L} {q} {ws} {ws'} {ws''} m room w = record {
   inside = inside_then (inside_wider 0 ((q + 1) * (4 * L)) (omega arith) (omega arith) m.inside) (kept_inside (omega arith) (omega arith) w.kept);

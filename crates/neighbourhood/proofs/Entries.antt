@@ -126,9 +126,6 @@ module _ {P : Plan} {zs : List ℤ} {most k c : ℕ} {o : Option ℕ} {r : Bool}
     some = λ t. ⊎_elim (λ p. table_entry P zs most (built_search P (length zs) accepts) k (some_cost p.0)) (λ p. m.some (sym p ∙ t)) q;
   }
 
-pub entered_all : {P : Plan} {zs : List ℤ} {most k : ℕ} {r : Bool} {list list' : List ℕ} → k ≡ suc most → Entered P zs most k r list list' → Put P zs most r list list'
-entered_all {P} {zs} {most} {k} {r} {list} {list'} e m = record { size = m.size; done = subst (λ (x : ℕ). take x list' ≡ entries P zs x) e m.done; some = m.some }
-
 -- ---- 16, or the entries
 
 module _ {P : Plan} {zs : List ℤ} {most : ℕ} {g : Shape} {ws : List ℕ} (a : Ground P zs most g ws) where
@@ -152,28 +149,6 @@ module _ {P : Plan} {zs : List ℤ} {most : ℕ} {g : Shape} {ws : List ℕ} (a 
       found = λ q. table_found_by P zs most a.accepts (table_at P zs (length zs)) last_held (omega (arith, end_is, m.changes, leb-false none r.end.low.rank.value (sym e ∙ q)));
       inside = inside_wider 0 (table_limit P most) (omega arith) (omega arith) m.walked.inside;
     }
-
--- ---- the list
-
--- the first i numbers are those of another list, and the rest is as before
-pub record Copied (list : List ℕ) (i : ℕ) (out out' : List ℕ) : Type 0 where
-  pub size : length out' ≡ length out
-  pub front : take i out' ≡ take i list
-  pub rest : drop i out' ≡ drop i out
-
-pub copied_none : (list out : List ℕ) → Copied list 0 out out
-copied_none list out = record { size = refl; front = refl; rest = refl }
-
-pub copied_more : {list : List ℕ} {i : ℕ} {out out' : List ℕ} → i < length list → i < length out' → Copied list i out out' → Copied list (i + 1) out (set out' i (get_or list i 0))
-copied_more {list} {i} {out} {out'} h k m = record {
-  size = length-set out' i (get_or list i 0) ∙ m.size;
-  front = subst (λ (x : ℕ). take x (set out' i (get_or list i 0)) ≡ take x list) (sym (add-one i)) (take-suc-set out' i (get_or list i 0) k ∙ ap (λ (x : List ℕ). x ++ (get_or list i 0 ∷ [])) m.front ∙ sym (take-suc list i 0 h));
-  rest = drop-set-lt (i + 1) out' i (get_or list i 0) (omega arith) ∙ sym (drop-drop 1 i out') ∙ ap (λ (x : List ℕ). drop 1 x) m.rest ∙ drop-drop 1 i out;
-}
-
-pub copied_all : {list : List ℕ} {i n : ℕ} {out out' : List ℕ} → i ≡ n → Copied list i out out' → out' ≡ take n list ++ drop n out
-copied_all {list} {i} {n} {out} {out'} e m =
-    subst (λ (x : ℕ). out' ≡ take x list ++ drop x out) e (sym (take-append-drop i out') ∙ ap (λ (x : List ℕ). x ++ drop i out') m.front ∙ ap (λ (x : List ℕ). take i list ++ x) m.rest)
 
 -- ---- the answer
 

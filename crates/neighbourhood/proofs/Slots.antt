@@ -46,18 +46,6 @@ slot_cases b i t = go (eqb i 0) refl (ltb t i) refl
     go false e true f = inl refl
     go false e false f = inr (refl, some_slot i (eqb-false i 0 e), ltb-false t i f)
 
-pub slot_zero : (b i t : ℕ) → i ≡ 0 → 0 ≡ slot_of b i t
-unfolding slot_of
-slot_zero b i t e = rw (eq-eqb i 0 e) refl
-
-pub slot_late : (b i t : ℕ) → (i ≡ 0 → ⊥) → t < i → 0 ≡ slot_of b i t
-unfolding slot_of
-slot_late b i t n h = rw (ne_eqb i 0 n, lt-ltb t i h) refl
-
-pub slot_there : (b i t : ℕ) → (i ≡ 0 → ⊥) → i ≤ t → b + i ≡ slot_of b i t
-unfolding slot_of
-slot_there b i t n h = rw (ne_eqb i 0 n, le-ltb t i h) refl
-
 pub slot_low : (b i t : ℕ) → slot_of b i t ≤ b + i
 slot_low b i t = ⊎_elim (λ h. omega arith) (λ h. omega (arith, h.0)) (slot_cases b i t)
 

@@ -42,9 +42,6 @@ stepped_inside {P} a {t} {x} h m =
     record { size = m.size; word = λ i. ⊎_elim (λ p. absurd (omega arith)) (λ p. m.word i (inr (omega arith)) (inr (omega arith))) }
 
 module _ {P : Plan} {zs : List ℤ} {most : ℕ} {g : Shape} {ws : List ℕ} (a : Ground P zs most g ws) {t from to : ℕ} (some : 1 ≤ t) (more : t < length zs) (banks : Banks most from to) where
-  pub stepping_none : Slots P zs most t from ws → Stepping P zs most t from to 0 ws ws
-  stepping_none start = record { old = start; made = λ n h k. absurd (omega arith); inside = inside_refl _ _ ws }
-
   module _ {ws' : List ℕ} {i : ℕ} (m : Stepping P zs most t from to i ws ws') (hi : i ≤ most) where
     -- stays come from the same slot, changes from the one before
     abbrev tables : ℕ → Table
@@ -107,9 +104,6 @@ module _ {P : Plan} {zs : List ℤ} {most : ℕ} {g : Shape} {ws : List ℕ} (a 
       pub more_as : {ws'' : List ℕ} → ((T : ℕ → Table) → Sources P t T ws' stays changes → Stepped P (suc t) (next_from P zs t T) next f ws' ws'') → Stepping P zs most t from to n ws ws''
       more_as {ws''} w = rw e (stepping_more (subst (λ (x : ℕ). Stepped P (suc t) (next_from P zs t tables) x (place_of P (2 * most + 3)) ws' ws'') (at_next ∙ ap (λ (x : ℕ). place_of P (to + x)) e)
           (subst (λ (x : ℕ). Stepped P (suc t) (next_from P zs t tables) next x ws' ws'') at-free (w tables (rw (at-stays, at-changes, e) sources)))))
-
-  pub stepping_all : {ws' : List ℕ} {i : ℕ} → i ≡ min (suc most) (suc t) → Stepping P zs most t from to i ws ws' → StepTo P zs most (suc t) to ws ws'
-  stepping_all e m = record { slots = record { empty = m.old.empty; slot = λ n h k l. m.made n h (omega arith) }; inside = m.inside }
 
 -- ---- reading by reading
 

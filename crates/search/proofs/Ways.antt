@@ -41,37 +41,8 @@ place_low {P} a at =
     ⊎_elim (λ x. omega (arith, x.0)) (λ x. omega (arith, x.0)) at.places
 
 module _ {P : Plan} {zs : List ℤ} {g : Shape} {w₀ : Walk} {p₀ : Point} {T₀ ws : List ℕ} {out : List ℤ} (a : WayReady P zs g w₀ p₀ T₀ ws out) where
-  pub way_none : (t : ℕ) → suc t ≡ length zs → WayTo P zs t p₀ p₀ ws ws out out
-  way_none t e = record {
-    here = subst (λ (x : ℕ). PointAt P zs x p₀) (sym e) a.here;
-    last = omega (arith, a.last);
-    inside = inside_refl 0 (limit P) ws;
-    size = refl;
-    done = [];
-    count = a.none;
-    few = omega (arith, a.none);
-    way = ap (λ (x : ℕ). walk_back P zs p₀.last x (node_at P p₀)) (sym e);
-    holds = holds_none out;
-  }
-
   module _ {t : ℕ} {p : Point} {ws' : List ℕ} {out' : List ℤ} (b : WayTo P zs t p₀ p ws ws' out out') (h : 0 < t) where
-    pub may_rewind : {w : Walk} {T : List ℕ} → At P zs w ws' → Stack P zs w.count T ws' → w.time ≡ suc t → Workspace P zs g ws' × (At P zs w ws' × (Stack P zs w.count T ws' × ((1 ≤ t) × (t ≤ w.time))))
-    may_rewind at k e = (still_space a.space b.inside, (at, (k, (h, omega arith))))
-
     module _ {T ws'' : List ℕ} {w : Walk} (m : Walked P zs t T ws' ws'' w) where
-      pub may_step : StepReady P zs t w.cur g p ws'' out'
-      may_step = record {
-        task = a.space.task;
-        positive = h;
-        more = omega (arith, b.few);
-        layer = subst (λ (x : ℕ). Layer P zs x ws'' w.cur) m.time m.at.layer;
-        place = place_low a.space.task m.at;
-        here = b.here;
-        last = b.last;
-        few = omega (arith, b.few, a.space.task.ready.few_readings);
-        room = omega (arith, b.few, a.room, b.size);
-      }
-
       pub way_more : {out'' : List ℤ} {r : Point} → StepMade P zs t p r out' out'' → (u : ℕ) → suc u ≡ t → WayTo P zs u p₀ r ws ws'' out out''
       way_more {out''} {r} s u e = record {
         here = subst (λ (x : ℕ). PointAt P zs x r) (sym e) s.here;
@@ -93,6 +64,3 @@ finished {P} {p} {out} {w} {out'} {r} e m v = record {
   size = v.size ∙ m.size;
   holds = λ rs l₀ c h. holds_reversed (rs ++ (M.run 1 p.last p.key.state (P.lo +ℤ pos p.low.level) 255 ∷ [])) l₀ w out' (p.runs + 1) (omega (arith, c, length-append rs (M.run 1 p.last p.key.state (P.lo +ℤ pos p.low.level) 255 ∷ []))) (holds_put rs l₀ out w p.runs r _ c e h m) v;
 }
-
-pub way_end : {P : Plan} {zs : List ℤ} {t u : ℕ} {p₀ p : Point} {ws ws' : List ℕ} {out out' : List ℤ} → t ≡ u → WayTo P zs t p₀ p ws ws' out out' → WayTo P zs u p₀ p ws ws' out out'
-way_end {P} {zs} {t} {u} {p₀} {p} {ws} {ws'} {out} {out'} e b = subst (λ (x : ℕ). WayTo P zs x p₀ p ws ws' out out') e b
