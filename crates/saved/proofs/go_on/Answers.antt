@@ -7,15 +7,12 @@ returns-then-t-x c = reached_walked c.requires.0.space c.requires.1 c.forward-w.
 
 pub pack-requires : goal.pack-requires
 pack-requires c = let m = reached_walked c.requires.0.space c.requires.1 c.forward-w.ensures in
-    pack_ready (space_then c.requires.0.space m.inside.size) m.at m.stack c.area-limit.ensures.0 c.lists_at-lists.ensures.0
-
-pub push-requires : goal.push-requires
-push-requires c = (c.requires.1.size, omega (arith, c.if-n-ge-SLOTS.false))
+    rw c.stack_top-at.ensures (pack_ready (space_then c.requires.0.space m.inside.size) m.at m.stack c.area-limit.ensures.0 c.lists_at-lists.ensures.0)
 
 pub returns-in_default : goal.returns-in_default
 returns-in_default c = let m = reached_walked c.requires.0.space c.requires.1 c.forward-w.ensures in
-    walked_then m (full_walked (space_then c.requires.0.space m.inside.size) m.at m.stack c.area-limit.ensures.0 c.lists_at-lists.ensures.0 c.pack.ensures m.time)
+    walked_then m (full_walked (space_then c.requires.0.space m.inside.size) m.at m.stack c.area-limit.ensures.0 c.lists_at-lists.ensures.0 (rw c.stack_top-at.ensures at c.pack.ensures) m.time)
 
 pub returns : goal.returns
 returns c = let m = reached_walked c.requires.0.space c.requires.1 c.forward-w.ensures in
-    walked_then m (pushed_walked (space_then c.requires.0.space m.inside.size) m.at m.stack c.area-limit.ensures.0 c.lists_at-lists.ensures.0 c.pack.ensures m.time c.in-Some.is (omega (arith, c.if-n-ge-SLOTS.false)) c.push.ensures)
+    walked_then m (pushed_walked (space_then c.requires.0.space m.inside.size) m.at m.stack c.area-limit.ensures.0 c.lists_at-lists.ensures.0 (rw c.stack_top-at.ensures at c.pack.ensures) m.time c.in-Some.is (omega (arith, c.if-n-ge-SLOTS.false)))

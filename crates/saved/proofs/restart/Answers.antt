@@ -9,7 +9,7 @@ pub returns-then-count-eq0 : goal.returns-then-count-eq0
 returns-then-count-eq0 c = restarted_first c.requires.0 c.requires.1.0 c.area-free.ensures.0 c.if-count-eq0.true c.first_layer.ensures
 
 pub unpack-requires : goal.unpack-requires
-unpack-requires c = unpack_ready c.requires.0 c.requires.1.0 c.requires.1.1 (omega (arith, c.if-count-eq0.false)) c.lists_at-lists.ensures.0
+unpack-requires c = rw c.stack_top-at.ensures (unpack_ready c.requires.0 c.requires.1.0 c.requires.1.1 (omega (arith, c.if-count-eq0.false)) c.lists_at-lists.ensures.0)
 
 pub returns : goal.returns
-returns c = restarted_top c.requires.0 c.requires.1.0 c.requires.1.1 (omega (arith, c.if-count-eq0.false)) c.lists_at-lists.ensures.0 c.unpack.ensures
+returns c = restarted_top c.requires.0 c.requires.1.0 c.requires.1.1 (omega (arith, c.if-count-eq0.false)) c.lists_at-lists.ensures.0 (rw c.stack_top-at.ensures at c.unpack.ensures)
