@@ -63,11 +63,12 @@ fn stack_top(problem: &Problem, table: &[Saved], n: usize) -> usize
     requires { Shape-small problem.now.shape × (ShapeOf problem.now.plan.now problem.now.shape × (n ≤ length table.now)) }
     ensures { result ≡ off_of problem.now.plan.now table.now n }
 {
-    if n == 0 {
-        return FREE_AT * area(problem.shape)
-            + layer::TEMP_WORDS * (problem.shape.grid.levels as usize);
+    match table[..n].last() {
+        Some(top) => top.end,
+        None => {
+            FREE_AT * area(problem.shape) + layer::TEMP_WORDS * (problem.shape.grid.levels as usize)
+        }
     }
-    table[n - 1].end
 }
 
 // The n lists from o on, packed from at on: where they end, or none where they would reach past limit.
@@ -181,12 +182,10 @@ fn drop_after(table: &[Saved], count: usize, t: usize) -> usize
     requires { (length table.now ≡ most_slots) × (count ≤ most_slots) }
     ensures { Dropped table.now count t result }
 {
-    for n in (0..count).rev() {
-        if table[n].time <= t {
-            return n + 1;
-        }
-    }
-    0
+    table[..count]
+        .iter()
+        .rposition(|entry| entry.time <= t)
+        .map_or(0, |n| n + 1)
 }
 
 // From the top saved layer, or from the first reading where none is saved.
