@@ -7,8 +7,8 @@ use native.Mathlib.Omega.{arith}
 use native.Mathlib.Nat.{mul-le-mul, mul-le-mul_right, div-add-mod', mod-lt}
 use native.Mathlib.Numerals.{add-one}
 use lib.IntN.{ℤ}
-use lib.ListN.{length, get_or, set, length-set}
-use lib.Seq.{get_or-set_same, get_or-set_other}
+use lib.ListN.{length, get_or, set, length-set, take}
+use lib.Seq.{get_or-set_same, get_or-set_other, get_or-take, length-take-le}
 use Rattle.integers.specs.Rep.{le_or_lt}
 use Rattle.plan.specs.declared.Plan.{Plan}
 use Rattle.model.specs.Model.{width}
@@ -87,6 +87,14 @@ off_before : (T : List Saved) (n : ℕ) (x : Saved) (P : Plan) (i : ℕ) → i �
 off_before T n x P zero h = refl
 off_before T n x P (suc i) h = ap (λ (y : Saved). y.end) (saved_before T n x i (omega arith))
 
+-- where the entries before the one at i end, seen in the first n
+off_front : (P : Plan) (T : List Saved) (n i : ℕ) → i ≤ n → off_of P (take n T) i ≡ off_of P T i
+off_front P T n zero h = refl
+off_front P T n (suc i) h = ap (λ (y : Saved). y.end) (get_or-take n T i _ (omega arith))
+
+off_taken : (P : Plan) (T : List Saved) (n : ℕ) → n ≤ length T → off_of P (take n T) (length (take n T)) ≡ off_of P T n
+off_taken P T n h = ap (λ (i : ℕ). off_of P (take n T) i) (length-take-le n T h) ∙ off_front P T n n (omega arith)
+
 module _ {P : Plan} {zs : List ℤ} {n : ℕ} {T : List Saved} where
   module _ {ws : List ℕ} (k : Stack P zs n T ws) where
     rises : (i : ℕ) → i < n → off_of P T i ≤ off_of P T (suc i)
@@ -114,6 +122,20 @@ module _ {P : Plan} {zs : List ℤ} {n : ℕ} {T : List Saved} where
         packed = packed_same z (λ j u v. f j (omega (arith, off_low i (omega arith))) (omega (arith, off_high (suc i) (omega arith)))) y.packed;
       };
     }
+
+    -- ---- the first n entries as a list of their own
+
+    pub taken_count : length (take n T) ≡ n
+    taken_count = length-take-le n T (omega (arith, k.size, k.few))
+
+    pub taken_off : off_of P (take n T) (length (take n T)) ≡ off_of P T n
+    taken_off = off_taken P T n (omega (arith, k.size, k.few))
+
+    pub taken_time : 0 < n → time_of (take n T) (length (take n T) - 1) ≡ time_of T (n - 1)
+    taken_time h = ap (λ (i : ℕ). time_of (take n T) (i - 1)) taken_count ∙ ap (λ (y : Saved). y.time) (get_or-take n T (n - 1) _ (omega arith))
+
+    pub taken_below : 0 < n → off_of P (take (length (take n T) - 1) (take n T)) (length (take (length (take n T) - 1) (take n T))) ≡ off_of P T (n - 1)
+    taken_below h = off_taken P (take n T) (length (take n T) - 1) (omega arith) ∙ ap (λ (i : ℕ). off_of P (take n T) (i - 1)) taken_count ∙ off_front P T n (n - 1) (omega arith)
 
     -- what changes words below the stack only leaves it as it is
     pub stack_kept : {ws' : List ℕ} {m : ℕ} → m ≡ n → Inside 0 (stack_at P) ws ws' → Stack P zs m T ws'
@@ -143,6 +165,13 @@ module _ {P : Plan} {zs : List ℤ} {n : ℕ} {T : List Saved} where
         where
           last : Entry P zs (time_of T' n) ws (off_of P T' n) (off_of P T' (suc n))
           last = rw (ap (λ (x : Saved). x.time) one_at, off_before T n one P n (omega arith), ap (λ (x : Saved). x.end) one_at) (record { some = some; most = most; packed = y })
+
+    -- what is left of the first n entries is left of the table
+    pub dropped_taken : {t r : ℕ} → Dropped (take n T) (length (take n T)) t r → Dropped T n t r
+    dropped_taken {t} {r} d = record {
+      count = omega (arith, d.count, taken_count);
+      top = λ h. rw (sym (ap (λ (y : Saved). y.time) (get_or-take n T (r - 1) (record { time = 0; end = 0 }) (omega (arith, d.count, taken_count))))) (d.top h);
+    }
 
     pub stack_dropped : {t r : ℕ} → Dropped T n t r → Stack P zs r T ws
     stack_dropped {t} {r} d = record {

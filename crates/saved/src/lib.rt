@@ -58,12 +58,12 @@ fn lists_at(problem: &Problem, t: usize) -> usize
     labels::counts_at(problem.plan, problem.code, t) * problem.shape.states
 }
 
-// Where the first n saved layers end: where the stack begins if there is none.
-fn stack_top(problem: &Problem, table: &[Saved], n: usize) -> usize
-    requires { Shape-small problem.now.shape × (ShapeOf problem.now.plan.now problem.now.shape × (n ≤ length table.now)) }
-    ensures { result ≡ off_of problem.now.plan.now table.now n }
+// Where these saved layers end in the workspace, and the next one begins: where the stack begins if there is none.
+fn stack_top(problem: &Problem, saved: &[Saved]) -> usize
+    requires { Shape-small problem.now.shape × ShapeOf problem.now.plan.now problem.now.shape }
+    ensures { result ≡ off_of problem.now.plan.now saved.now (length saved.now) }
 {
-    match table[..n].last() {
+    match saved.last() {
         Some(top) => top.end,
         None => {
             FREE_AT * area(problem.shape) + layer::TEMP_WORDS * (problem.shape.grid.levels as usize)
@@ -170,7 +170,7 @@ fn next_stop(
     if slots <= n {
         return t;
     }
-    let free = ALL_WORDS * area(problem.shape) - stack_top(problem, table, n);
+    let free = ALL_WORDS * area(problem.shape) - stack_top(problem, &table[..n]);
     let lists = lists_at(problem, walk.time);
     let words = words_of(ws, walk.cur, lists, problem.shape.grid.levels);
     let c = free_slots(words, free, slots - n);
@@ -178,11 +178,10 @@ fn next_stop(
 }
 
 // How many entries are left without those later than t on top.
-fn drop_after(table: &[Saved], count: usize, t: usize) -> usize
-    requires { (length table.now ≡ most_slots) × (count ≤ most_slots) }
-    ensures { Dropped table.now count t result }
+fn drop_after(saved: &[Saved], t: usize) -> usize
+    ensures { Dropped saved.now (length saved.now) t result }
 {
-    table[..count]
+    saved
         .iter()
         .rposition(|entry| entry.time <= t)
         .map_or(0, |n| n + 1)
@@ -200,7 +199,7 @@ fn restart(
     requires { Workspace problem.now.plan.now problem.now.readings.now problem.now.shape ws.old × (Places problem.now.plan.now cur other × Stack problem.now.plan.now problem.now.readings.now count table.now ws.old) }
     ensures { Restarted problem.now.plan.now problem.now.readings.now count table.now ws.old ws.new result }
 {
-    if count == 0 {
+    let [below @ .., top] = &table[..count] else {
         let free = FREE_AT * area(problem.shape);
         layer::first_layer(ws, problem, cur, free);
         return Walk {
@@ -209,10 +208,9 @@ fn restart(
             other,
             count,
         };
-    }
-    let top = count - 1;
-    let time = table[top].time;
-    let at = stack_top(problem, table, top);
+    };
+    let time = top.time;
+    let at = stack_top(problem, below);
     let lists = lists_at(problem, time);
     unpack(ws, at, cur, lists, problem.shape.grid.levels);
     Walk {
@@ -264,7 +262,7 @@ fn go_on(
     if t <= x || SLOTS <= n {
         return w;
     }
-    let at = stack_top(problem, table, n);
+    let at = stack_top(problem, &table[..n]);
     let limit = ALL_WORDS * area(problem.shape);
     let lists = lists_at(problem, w.time);
     let Some(end) = pack(ws, w.cur, at, limit, lists, problem.shape.grid.levels) else {
@@ -309,7 +307,7 @@ pub fn rewind(ws: &mut [u64], problem: &Problem, walk: Walk, table: &mut [Saved]
     requires { Workspace problem.now.plan.now problem.now.readings.now problem.now.shape ws.old × (At problem.now.plan.now problem.now.readings.now walk ws.old × (Stack problem.now.plan.now problem.now.readings.now walk.count table.old ws.old × ((1 ≤ t) × (t ≤ walk.time)))) }
     ensures { Walked problem.now.plan.now problem.now.readings.now t table.new ws.old ws.new result }
 {
-    let kept = drop_after(table, walk.count, t);
+    let kept = drop_after(&table[..walk.count], t);
     let w = restart(ws, problem, walk.cur, walk.other, table, kept);
     advance(ws, problem, w, table, t, SLOTS)
 }
