@@ -1,5 +1,5 @@
 -- Walks: what each step asks of the layers and the stack, and what it leaves of them. Assumes nothing.
-use mathlib.Core.Path.{◌≡◌, refl, sym, subst}
+use mathlib.Core.Path.{◌≡◌, refl, sym, ◌∙◌, subst}
 use mathlib.Core.Logic.{inl, inr, ⊎_elim}
 use mathlib.Core.List.{List}
 use Prim.Native.Nat.{ℕ, suc, ◌+◌, ◌-◌, ◌*◌, ◌≤◌, ◌<◌}
@@ -24,7 +24,7 @@ use Rattle.saved.specs.declared.Walk.{Walk}
 use Rattle.saved.specs.declared.Saved.{Saved}
 use Rattle.std.specs.Prelude.{Option, Some}
 use Rattle.saved.specs.Packed.{Inside, Row, PackReady, Packing, Saves, UnpackReady, Unpacked}
-use Rattle.saved.specs.Walk.{most_slots, free_cell, limit_cell, stack_at, limit, Places, Entry, Stack, time_of, off_of, At, Workspace, Walked, Reached, Dropped, Restarted, Stops}
+use Rattle.saved.specs.Walk.{most_slots, free_cell, limit_cell, stack_at, limit, Places, Entry, Stack, time_of, off_of, At, Workspace, Walked, Begun, Reached, Dropped, Restarted, Stops}
 use Rattle.saved.proofs.Chains.{inside_wider, inside_then}
 use Rattle.saved.proofs.Stacks.{layer_row, layer_packed, packed_layer, off_low, off_high, stack_same, stack_kept, stack_pushed, stack_empty}
 
@@ -76,9 +76,15 @@ module _ {P : Plan} {zs : List ℤ} {g : Shape} {ws : List ℕ} (a : Workspace P
 
   -- ---- starting again
 
-  -- at the first reading, with no entry in the table
-  pub empty_ready : {x : ℕ} (T : List Saved) → x ≡ g.states * g.grid.levels → length T ≡ most_slots → Workspace P zs g ws × (Places P 0 (layer_cell * x) × Stack P zs 0 T ws)
-  empty_ready {x} T e z = (a, (inl (refl, omega (arith, area_is e)), stack_empty T ws z stack_fits))
+  pub first_places : {x : ℕ} → x ≡ g.states * g.grid.levels → Places P 0 (layer_cell * x)
+  first_places e = inl (refl, omega (arith, area_is e))
+
+  -- with no entry in the table
+  pub begun : {ws' : List ℕ} {r : Walk} → Reached P zs 1 0 ws ws' r → Begun P zs ws ws' r
+  begun m T z = reached_walked (stack_empty T ws z stack_fits) m
+
+  pub restarted_first : {n : ℕ} {T : List Saved} {ws' : List ℕ} {r : Walk} → n ≡ 0 → Reached P zs 1 0 ws ws' r → Restarted P zs n T ws ws' r
+  restarted_first h m = record { at = m.at; count = m.count ∙ sym h; first = λ z. m.time; loaded = λ z. absurd (omega arith); inside = m.inside }
 
   module _ {cur other : ℕ} (places : Places P cur other) where
     pub start_ready : {x : ℕ} → x ≡ g.states * g.grid.levels → StartReady P zs cur (free_cell * x) g ws
@@ -90,13 +96,12 @@ module _ {P : Plan} {zs : List ℤ} {g : Shape} {ws : List ℕ} (a : Workspace P
       place = omega (arith, area_is e, small);
     }
 
-    pub restarted_first : {x n : ℕ} {T : List Saved} {ws' : List ℕ} → x ≡ g.states * g.grid.levels → n ≡ 0 → Stepped P 1 (first_table P zs) cur (free_cell * x) ws ws' → Restarted P zs n T ws ws' (record { time = 1; cur = cur; other = other; count = n })
+    pub started : {x : ℕ} {ws' : List ℕ} → x ≡ g.states * g.grid.levels → Stepped P 1 (first_table P zs) cur (free_cell * x) ws ws' → Reached P zs 1 0 ws ws' (record { time = 1; cur = cur; other = other; count = 0 })
     unfolding table_at
-    restarted_first e h m = record {
+    started e m = record {
       at = record { some = omega arith; most = a.some; places = places; layer = m.layer };
       count = refl;
-      first = λ z. refl;
-      loaded = λ z. absurd (omega arith);
+      time = refl;
       inside = within m.size (above_layers e (layers_low places).0 m);
     }
 

@@ -90,6 +90,10 @@ pub record Walked (P : Plan) (zs : List ℤ) (t : ℕ) (T' : List Saved) (ws ws'
   pub time : r.time ≡ t
   pub inside : Inside 0 (limit P) ws ws'
 
+-- the walk is at the first reading, over no layer saved, whatever the table has
+abbrev pub Begun : Plan → List ℤ → List ℕ → List ℕ → Walk → Type 0
+Begun P zs ws ws' r = (T : List Saved) → length T ≡ most_slots → Walked P zs 1 T ws ws' r
+
 -- the walk is at t, and no word from the stack of n layers on is changed
 pub record Reached (P : Plan) (zs : List ℤ) (t n : ℕ) (ws ws' : List ℕ) (r : Walk) : Type 0 where
   pub at : At P zs r ws'

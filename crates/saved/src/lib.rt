@@ -10,7 +10,7 @@ ghost use Rattle.model.specs.Checked.{Checked};
 ghost use Rattle.model.specs.Labels.{counts, used_at};
 ghost use Rattle.layer.specs.Layer.{Shape-small, ShapeOf, place_most};
 ghost use Rattle.saved.specs.Packed.{Row, PackReady, Saves, UnpackReady, Unpacked};
-ghost use Rattle.saved.specs.Walk.{most_slots, off_of, Workspace, At, Goes, Walked, Reached, Places, Stack, Dropped, Restarted, Stops};
+ghost use Rattle.saved.specs.Walk.{most_slots, off_of, Workspace, At, Goes, Walked, Begun, Reached, Places, Stack, Dropped, Restarted, Stops};
 
 use layer::{Origin, Problem, Shape};
 
@@ -187,6 +187,21 @@ fn drop_after(saved: &[Saved], t: usize) -> usize
         .map_or(0, |n| n + 1)
 }
 
+// The layer after the first reading, at cur, with nothing saved.
+fn start(ws: &mut [u64], problem: &Problem, cur: usize, other: usize) -> Walk
+    requires { Workspace problem.now.plan.now problem.now.readings.now problem.now.shape ws.old × Places problem.now.plan.now cur other }
+    ensures { Reached problem.now.plan.now problem.now.readings.now 1 0 ws.old ws.new result }
+{
+    let free = FREE_AT * area(problem.shape);
+    layer::first_layer(ws, problem, cur, free);
+    Walk {
+        time: 1,
+        cur,
+        other,
+        count: 0,
+    }
+}
+
 // From the top saved layer, or from the first reading where none is saved.
 fn restart(
     ws: &mut [u64],
@@ -200,14 +215,7 @@ fn restart(
     ensures { Restarted problem.now.plan.now problem.now.readings.now count table.now ws.old ws.new result }
 {
     let [below @ .., top] = &table[..count] else {
-        let free = FREE_AT * area(problem.shape);
-        layer::first_layer(ws, problem, cur, free);
-        return Walk {
-            time: 1,
-            cur,
-            other,
-            count,
-        };
+        return start(ws, problem, cur, other);
     };
     let time = top.time;
     let at = stack_top(problem, below);
@@ -294,12 +302,11 @@ pub fn advance(
 }
 
 // The layer after the first reading, with nothing saved.
-pub fn begin(ws: &mut [u64], problem: &Problem, table: &[Saved]) -> Walk
-    requires { Workspace problem.now.plan.now problem.now.readings.now problem.now.shape ws.old × (length table.now ≡ most_slots) }
-    ensures { Walked problem.now.plan.now problem.now.readings.now 1 table.now ws.old ws.new result }
+pub fn begin(ws: &mut [u64], problem: &Problem) -> Walk
+    requires { Workspace problem.now.plan.now problem.now.readings.now problem.now.shape ws.old }
+    ensures { Begun problem.now.plan.now problem.now.readings.now ws.old ws.new result }
 {
-    let other = layer::LAYER_WORDS * area(problem.shape);
-    restart(ws, problem, 0, other, table, 0)
+    start(ws, problem, 0, layer::LAYER_WORDS * area(problem.shape))
 }
 
 // Back to t: from the last layer saved that is not later, and forward again.

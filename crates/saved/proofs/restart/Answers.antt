@@ -2,14 +2,14 @@ use mathlib.Core.Path.{◌∙◌}
 use Prim.Native.Nat.{◌<◌}
 use native.Mathlib.Omega.{arith}
 use Rattle.saved.proofs.Stacks.{taken_count, taken_time, taken_below}
-use Rattle.saved.proofs.Walks.{start_ready, restarted_first, unpack_ready, restarted_top}
+use Rattle.saved.proofs.Walks.{restarted_first, unpack_ready, restarted_top}
 use Rattle.saved.proofs.restart.Goals as goal
 
-pub first_layer-requires : goal.first_layer-requires
-first_layer-requires c = start_ready c.requires.0 c.requires.1.0 c.area-free.ensures.0
+pub start-requires : goal.start-requires
+start-requires c = (c.requires.0, c.requires.1.0)
 
 pub returns-in_default : goal.returns-in_default
-returns-in_default c = restarted_first c.requires.0 c.requires.1.0 c.area-free.ensures.0 (omega (arith, c.in_default.len_below, taken_count c.requires.1.1)) c.first_layer.ensures
+returns-in_default c = restarted_first c.requires.0 (omega (arith, c.in_default.len_below, taken_count c.requires.1.1)) c.start.ensures
 
 pub unpack-requires : goal.unpack-requires
 unpack-requires c =
