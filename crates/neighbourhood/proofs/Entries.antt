@@ -34,6 +34,7 @@ use Rattle.model.specs.Neighbourhood.{most_word, entry_of, entries, table_of}
 use Rattle.model.proofs.NeighbourhoodLaws.{entry_by, entries_size, table_entry, table_none_by, table_found_by}
 use Rattle.layer.specs.declared.Shape.{Shape}
 use Rattle.layer.specs.Layer.{ShapeOf, place_most, LayerOf}
+use Rattle.saved.specs.declared.Saved.{Saved}
 use Rattle.saved.specs.Packed.{Inside}
 use Rattle.saved.specs.Walk.{Workspace}
 use Rattle.saved.proofs.Chains.{inside_refl, inside_wider}
@@ -136,7 +137,7 @@ module _ {P : Plan} {zs : List ℤ} {most : ℕ} {g : Shape} {ws : List ℕ} (a 
   pub decided_some : {x : Bool} → (x ≡ true → table_of P zs most ≡ cost_list (entries P zs (suc most))) → x ≡ true → Decided P zs most false ws ws
   decided_some f e = record { none = λ q. let z : ◌≡◌ {A = ℕ} 0 1 = cc in absurd (omega arith); found = λ q. f e; inside = inside_refl _ _ ws }
 
-  module _ {T ws' : List ℕ} {r : Ended} (m : Reaches P zs T ws ws' r) where
+  module _ {T : List Saved} {ws' : List ℕ} {r : Ended} (m : Reaches P zs T ws ws' r) where
     last_held : Holding P zs (length zs) (table_at P zs (length zs))
     last_held = table_held P zs a.task.ready (length zs) a.task.ready.some_readings a.task.ready.few_readings
 

@@ -144,7 +144,7 @@ fn none_allowed(ws: &mut [u64], problem: &Problem, most: usize, some: bool) -> b
     if some {
         return false;
     }
-    let mut table = [0usize; saved::TABLE];
+    let mut table = [saved::UNUSED; saved::SLOTS];
     let reached = search::cheapest(ws, problem, &mut table, 0);
     let least = reached.end.low.rank.value;
     quadratic::NONE <= least

@@ -1,5 +1,5 @@
 -- The stack of saved layers: its table, and what its entries hold. Assumes nothing.
-use mathlib.Core.Path.{◌≡◌, sym, ◌∙◌, subst}
+use mathlib.Core.Path.{◌≡◌, refl, sym, ◌∙◌, ap, subst}
 use mathlib.Core.Logic.{inr, ⊎_elim}
 use mathlib.Core.List.{List}
 use Prim.Native.Nat.{ℕ, zero, suc, ◌+◌, ◌-◌, ◌*◌, ◌/◌, ◌%◌, ◌≤◌, ◌<◌}
@@ -7,8 +7,8 @@ use native.Mathlib.Omega.{arith}
 use native.Mathlib.Nat.{mul-le-mul, mul-le-mul_right, div-add-mod', mod-lt}
 use native.Mathlib.Numerals.{add-one}
 use lib.IntN.{ℤ}
-use lib.ListN.{length, get_or, set, length-set}
-use lib.Seq.{get_or-set_same}
+use lib.ListN.{length, get_or, set, length-set, take}
+use lib.Seq.{get_or-set_same, get_or-set_other, get_or-take, length-take-le}
 use Rattle.integers.specs.Rep.{le_or_lt}
 use Rattle.plan.specs.declared.Plan.{Plan}
 use Rattle.model.specs.Model.{width}
@@ -22,7 +22,8 @@ use Rattle.curve.specs.Curve.{Curve, curve_same}
 use Rattle.model.specs.Held.{Table}
 use Rattle.layer.specs.Layer.{reading_most, count_most, base_of, list_at, LayerOf, Layer}
 use Rattle.saved.specs.Packed.{Chain, Inside, Row, Packing, Unpacked}
-use Rattle.saved.specs.Walk.{most_slots, table_size, stack_at, limit, Packed, Entry, Stack, time_of, off_of, Pushed, Dropped}
+use Rattle.saved.specs.declared.Saved.{Saved}
+use Rattle.saved.specs.Walk.{most_slots, stack_at, limit, Packed, Entry, Stack, saved_at, time_of, off_of, Dropped}
 use Rattle.saved.proofs.Chains.{chain_low, chain_next, chain_part, chain_same}
 
 -- ---- one layer
@@ -78,70 +79,107 @@ module _ {P : Plan} {zs : List ℤ} {t : ℕ} where
 
 -- ---- the stack
 
-module _ {P : Plan} {zs : List ℤ} {n : ℕ} {T : List ℕ} where
+-- what stands before an entry that is written
+saved_before : (T : List Saved) (n : ℕ) (x : Saved) (i : ℕ) → i < n → saved_at (set T n x) i ≡ saved_at T i
+saved_before T n x i h = get_or-set_other T n i x _ (λ q. omega arith)
+
+off_before : (T : List Saved) (n : ℕ) (x : Saved) (P : Plan) (i : ℕ) → i ≤ n → off_of P (set T n x) i ≡ off_of P T i
+off_before T n x P zero h = refl
+off_before T n x P (suc i) h = ap (λ (y : Saved). y.end) (saved_before T n x i (omega arith))
+
+-- where the entries before the one at i end, seen in the first n
+off_front : (P : Plan) (T : List Saved) (n i : ℕ) → i ≤ n → off_of P (take n T) i ≡ off_of P T i
+off_front P T n zero h = refl
+off_front P T n (suc i) h = ap (λ (y : Saved). y.end) (get_or-take n T i _ (omega arith))
+
+off_taken : (P : Plan) (T : List Saved) (n : ℕ) → n ≤ length T → off_of P (take n T) (length (take n T)) ≡ off_of P T n
+off_taken P T n h = ap (λ (i : ℕ). off_of P (take n T) i) (length-take-le n T h) ∙ off_front P T n n (omega arith)
+
+module _ {P : Plan} {zs : List ℤ} {n : ℕ} {T : List Saved} where
   module _ {ws : List ℕ} (k : Stack P zs n T ws) where
-    rises : (i : ℕ) → i < n → off_of T i ≤ off_of T (i + 1)
+    rises : (i : ℕ) → i < n → off_of P T i ≤ off_of P T (suc i)
     rises i h = chain_low (k.entry i h).packed.chain
 
-    pub off_low : (i : ℕ) → i ≤ n → stack_at P ≤ off_of T i
-    off_low zero h = omega (arith, k.first)
-    off_low (suc i) h = rw (← add-one i) (omega (arith, off_low i (omega arith), rises i (omega arith)))
+    pub off_low : (i : ℕ) → i ≤ n → stack_at P ≤ off_of P T i
+    off_low zero h = omega arith
+    off_low (suc i) h = omega (arith, off_low i (omega arith), rises i (omega arith))
 
-    off_top : (d i : ℕ) → i + d ≡ n → off_of T i ≤ off_of T n
+    off_top : (d i : ℕ) → i + d ≡ n → off_of P T i ≤ off_of P T n
     off_top zero i h = let e : i ≡ n = omega arith in rw e (omega arith)
-    off_top (suc d) i h = omega (arith, rises i (omega arith), off_top d (i + 1) (omega arith))
+    off_top (suc d) i h = omega (arith, rises i (omega arith), off_top d (suc i) (omega arith))
 
-    pub off_high : (i : ℕ) → i ≤ n → off_of T i ≤ off_of T n
+    pub off_high : (i : ℕ) → i ≤ n → off_of P T i ≤ off_of P T n
     off_high i h = off_top (n - i) i (omega arith)
 
-    pub stack_same : {ws' : List ℕ} → length ws' ≡ length ws → ((i : ℕ) → stack_at P ≤ i → i < off_of T n → get_or ws' i 0 ≡ get_or ws i 0) → Stack P zs n T ws'
+    pub stack_same : {ws' : List ℕ} → length ws' ≡ length ws → ((i : ℕ) → stack_at P ≤ i → i < off_of P T n → get_or ws' i 0 ≡ get_or ws i 0) → Stack P zs n T ws'
     stack_same z f = record {
       size = k.size;
       few = k.few;
-      first = k.first;
       top = k.top;
       entry = λ i h. let y = k.entry i h in record {
         some = y.some;
         most = y.most;
-        packed = packed_same z (λ j u v. f j (omega (arith, off_low i (omega arith))) (omega (arith, off_high (i + 1) (omega arith)))) y.packed;
+        packed = packed_same z (λ j u v. f j (omega (arith, off_low i (omega arith))) (omega (arith, off_high (suc i) (omega arith)))) y.packed;
       };
     }
+
+    -- ---- the first n entries as a list of their own
+
+    pub taken_count : length (take n T) ≡ n
+    taken_count = length-take-le n T (omega (arith, k.size, k.few))
+
+    pub taken_off : off_of P (take n T) (length (take n T)) ≡ off_of P T n
+    taken_off = off_taken P T n (omega (arith, k.size, k.few))
+
+    pub taken_time : 0 < n → time_of (take n T) (length (take n T) - 1) ≡ time_of T (n - 1)
+    taken_time h = ap (λ (i : ℕ). time_of (take n T) (i - 1)) taken_count ∙ ap (λ (y : Saved). y.time) (get_or-take n T (n - 1) _ (omega arith))
+
+    pub taken_below : 0 < n → off_of P (take (length (take n T) - 1) (take n T)) (length (take (length (take n T) - 1) (take n T))) ≡ off_of P T (n - 1)
+    taken_below h = off_taken P (take n T) (length (take n T) - 1) (omega arith) ∙ ap (λ (i : ℕ). off_of P (take n T) (i - 1)) taken_count ∙ off_front P T n (n - 1) (omega arith)
 
     -- what changes words below the stack only leaves it as it is
     pub stack_kept : {ws' : List ℕ} {m : ℕ} → m ≡ n → Inside 0 (stack_at P) ws ws' → Stack P zs m T ws'
     stack_kept {ws'} e i = subst (λ (x : ℕ). Stack P zs x T ws') (sym e) (stack_same i.size (λ j u v. i.word j (inr u)))
 
-    pub stack_pushed : {t e : ℕ} {T' : List ℕ} → n < most_slots → Pushed T n t e T' → 1 ≤ t → t ≤ length zs → e ≤ limit P → Packed P zs t ws (off_of T n) e → Stack P zs (n + 1) T' ws
-    stack_pushed {t} {e} {T'} few p some most fits y = record {
-      size = p.size ∙ k.size;
-      few = omega arith;
-      first = p.old_off 0 (omega arith) ∙ k.first;
-      top = rw p.off fits;
-      entry = λ i h. ⊎_elim (λ q. let w : n ≡ i = omega arith in subst (λ (x : ℕ). Entry P zs (time_of T' x) ws (off_of T' x) (off_of T' (x + 1))) w new) (λ q. old i q) (le_or_lt n i);
-    }
-      where
-        new : Entry P zs (time_of T' n) ws (off_of T' n) (off_of T' (n + 1))
-        new = rw (p.time, p.old_off n (omega arith), p.off) (record { some = some; most = most; packed = y })
+    -- one entry more, of the layer after t readings, packed up to e
+    module _ (t e : ℕ) (few : n < most_slots) where
+      abbrev one : Saved
+      one = record { time = t; end = e }
 
-        old : (i : ℕ) → i < n → Entry P zs (time_of T' i) ws (off_of T' i) (off_of T' (i + 1))
-        old i q = rw (p.old_time i q, p.old_off i (omega arith), p.old_off (i + 1) (omega arith)) (k.entry i q)
+      abbrev T' : List Saved
+      T' = set T n one
+
+      one_at : saved_at T' n ≡ one
+      one_at = get_or-set_same T n one _ (omega (arith, k.size))
+
+      before : (i : ℕ) → i < n → Entry P zs (time_of T' i) ws (off_of P T' i) (off_of P T' (suc i))
+      before i h = rw (ap (λ (x : Saved). x.time) (saved_before T n one i h), off_before T n one P i (omega arith), off_before T n one P (suc i) (omega arith)) (k.entry i h)
+
+      pub stack_pushed : 1 ≤ t → t ≤ length zs → e ≤ limit P → Packed P zs t ws (off_of P T n) e → Stack P zs (n + 1) T' ws
+      stack_pushed some most fits y = rw (add-one n) (record {
+        size = length-set T n one ∙ k.size;
+        few = omega arith;
+        top = rw (ap (λ (x : Saved). x.end) one_at) fits;
+        entry = λ i h. ⊎_elim (λ q. let w : n ≡ i = omega arith in subst (λ (x : ℕ). Entry P zs (time_of T' x) ws (off_of P T' x) (off_of P T' (suc x))) w last) (λ q. before i q) (le_or_lt n i);
+      })
+        where
+          last : Entry P zs (time_of T' n) ws (off_of P T' n) (off_of P T' (suc n))
+          last = rw (ap (λ (x : Saved). x.time) one_at, off_before T n one P n (omega arith), ap (λ (x : Saved). x.end) one_at) (record { some = some; most = most; packed = y })
+
+    -- what is left of the first n entries is left of the table
+    pub dropped_taken : {t r : ℕ} → Dropped (take n T) (length (take n T)) t r → Dropped T n t r
+    dropped_taken {t} {r} d = record {
+      count = omega (arith, d.count, taken_count);
+      top = λ h. rw (sym (ap (λ (y : Saved). y.time) (get_or-take n T (r - 1) (record { time = 0; end = 0 }) (omega (arith, d.count, taken_count))))) (d.top h);
+    }
 
     pub stack_dropped : {t r : ℕ} → Dropped T n t r → Stack P zs r T ws
     stack_dropped {t} {r} d = record {
       size = k.size;
       few = omega (arith, d.count, k.few);
-      first = k.first;
       top = omega (arith, off_high r d.count, k.top);
       entry = λ i h. k.entry i (omega (arith, d.count));
     }
 
-pub stack_empty : {P : Plan} {zs : List ℤ} (a : ℕ) (T ws : List ℕ) → length T ≡ table_size → a ≡ stack_at P → stack_at P ≤ limit P → Stack P zs 0 (set T most_slots a) ws
-stack_empty a T ws z e h =
-    let q : get_or (set T most_slots a) most_slots 0 ≡ a = get_or-set_same T most_slots a 0 (omega arith) in
-    record {
-      size = length-set T most_slots a ∙ z;
-      few = omega arith;
-      first = q ∙ e;
-      top = omega (arith, q);
-      entry = λ i g. absurd (omega arith);
-    }
+pub stack_empty : {P : Plan} {zs : List ℤ} (T : List Saved) (ws : List ℕ) → length T ≡ most_slots → stack_at P ≤ limit P → Stack P zs 0 T ws
+stack_empty T ws z h = record { size = z; few = omega arith; top = h; entry = λ i g. absurd (omega arith) }

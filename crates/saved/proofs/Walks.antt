@@ -1,5 +1,5 @@
 -- Walks: what each step asks of the layers and the stack, and what it leaves of them. Assumes nothing.
-use mathlib.Core.Path.{◌≡◌, refl, sym, subst}
+use mathlib.Core.Path.{◌≡◌, refl, sym, ◌∙◌, subst}
 use mathlib.Core.Logic.{inl, inr, ⊎_elim}
 use mathlib.Core.List.{List}
 use Prim.Native.Nat.{ℕ, suc, ◌+◌, ◌-◌, ◌*◌, ◌≤◌, ◌<◌}
@@ -16,18 +16,19 @@ use Rattle.model.proofs.Labels.{used_most}
 use Rattle.model.specs.Held.{Table, first_table, next_table}
 use Rattle.model.specs.Ends.{table_at}
 use Rattle.layer.specs.declared.Shape.{Shape}
-use Rattle.layer.specs.Layer.{temp_words, place_most, layer_cell, layer_words, LayerOf, Layer, Sources}
+use Rattle.layer.specs.Layer.{place_most, layer_cell, layer_words, LayerOf, Layer, Sources}
 use Rattle.layer.proofs.Next.{table_next}
 use Rattle.layer.proofs.Lists.{layer_same}
 use Rattle.layer.specs.Next.{Aside, StepReady, Stepped, StartReady}
 use Rattle.saved.specs.declared.Walk.{Walk}
+use Rattle.saved.specs.declared.Saved.{Saved}
 use Rattle.std.specs.Prelude.{Option, Some}
 use Rattle.saved.specs.Packed.{Inside, Row, PackReady, Packing, Saves, UnpackReady, Unpacked}
-use Rattle.saved.specs.Walk.{most_slots, table_size, free_cell, limit_cell, stack_at, limit, Places, Entry, Stack, time_of, off_of, At, Workspace, Walked, Reached, Pushed, Dropped, Restarted, Stops}
+use Rattle.saved.specs.Walk.{most_slots, free_cell, limit_cell, stack_at, limit, Places, Entry, Stack, time_of, off_of, At, Workspace, Walked, Begun, Reached, Dropped, Restarted, Stops}
 use Rattle.saved.proofs.Chains.{inside_wider, inside_then}
 use Rattle.saved.proofs.Stacks.{layer_row, layer_packed, packed_layer, off_low, off_high, stack_same, stack_kept, stack_pushed, stack_empty}
 
-pub stop_row : {P : Plan} {g : Shape} {w : Walk} {t : ℕ} {T ws : List ℕ} (a : Stops P g w t T ws) {n : ℕ} → n ≡ used_at P w.time * P.states
+pub stop_row : {P : Plan} {g : Shape} {w : Walk} {t : ℕ} {T : List Saved} {ws : List ℕ} (a : Stops P g w t T ws) {n : ℕ} → n ≡ used_at P w.time * P.states
     → Row ws w.cur n g.grid.levels × (w.cur + n * (4 * g.grid.levels) ≤ place_most)
 stop_row a e = rw e (a.row, a.place)
 
@@ -67,17 +68,23 @@ module _ {P : Plan} {zs : List ℤ} {g : Shape} {ws : List ℕ} (a : Workspace P
   inside_limit i = inside_wider 0 (limit P) (omega arith) stack_fits i
 
   -- with nothing saved on the way the stack is as it was
-  pub reached_walked : {n t : ℕ} {T ws' : List ℕ} {r : Walk} → Stack P zs n T ws → Reached P zs t n ws ws' r → Walked P zs t T ws ws' r
+  pub reached_walked : {n t : ℕ} {T : List Saved} {ws' : List ℕ} {r : Walk} → Stack P zs n T ws → Reached P zs t n ws ws' r → Walked P zs t T ws ws' r
   reached_walked k m = record { at = m.at; stack = stack_kept k m.count m.inside; time = m.time; inside = inside_limit m.inside }
 
-  pub restarted_walked : {n t : ℕ} {T ws' : List ℕ} {r : Walk} → Stack P zs n T ws → Restarted P zs n T ws ws' r → r.time ≡ t → Walked P zs t T ws ws' r
+  pub restarted_walked : {n t : ℕ} {T : List Saved} {ws' : List ℕ} {r : Walk} → Stack P zs n T ws → Restarted P zs n T ws ws' r → r.time ≡ t → Walked P zs t T ws ws' r
   restarted_walked k m e = record { at = m.at; stack = stack_kept k m.count m.inside; time = e; inside = inside_limit m.inside }
 
   -- ---- starting again
 
-  -- at the first reading, with no entry in the table
-  pub empty_ready : {x : ℕ} (T : List ℕ) → x ≡ g.states * g.grid.levels → length T ≡ table_size → Workspace P zs g ws × (Places P 0 (layer_cell * x) × Stack P zs 0 (set T most_slots (free_cell * x + temp_words g.grid.levels)) ws)
-  empty_ready {x} T e z = (a, (inl (refl, omega (arith, area_is e)), stack_empty _ T ws z (omega (arith, area_is e, a.task.shape.levels)) stack_fits))
+  pub first_places : {x : ℕ} → x ≡ g.states * g.grid.levels → Places P 0 (layer_cell * x)
+  first_places e = inl (refl, omega (arith, area_is e))
+
+  -- with no entry in the table
+  pub begun : {ws' : List ℕ} {r : Walk} → Reached P zs 1 0 ws ws' r → Begun P zs ws ws' r
+  begun m T z = reached_walked (stack_empty T ws z stack_fits) m
+
+  pub restarted_first : {n : ℕ} {T : List Saved} {ws' : List ℕ} {r : Walk} → n ≡ 0 → Reached P zs 1 0 ws ws' r → Restarted P zs n T ws ws' r
+  restarted_first h m = record { at = m.at; count = m.count ∙ sym h; first = λ z. m.time; loaded = λ z. absurd (omega arith); inside = m.inside }
 
   module _ {cur other : ℕ} (places : Places P cur other) where
     pub start_ready : {x : ℕ} → x ≡ g.states * g.grid.levels → StartReady P zs cur (free_cell * x) g ws
@@ -89,24 +96,23 @@ module _ {P : Plan} {zs : List ℤ} {g : Shape} {ws : List ℕ} (a : Workspace P
       place = omega (arith, area_is e, small);
     }
 
-    pub restarted_first : {x n : ℕ} {T ws' : List ℕ} → x ≡ g.states * g.grid.levels → n ≡ 0 → Stepped P 1 (first_table P zs) cur (free_cell * x) ws ws' → Restarted P zs n T ws ws' (record { time = 1; cur = cur; other = other; count = n })
+    pub started : {x : ℕ} {ws' : List ℕ} → x ≡ g.states * g.grid.levels → Stepped P 1 (first_table P zs) cur (free_cell * x) ws ws' → Reached P zs 1 0 ws ws' (record { time = 1; cur = cur; other = other; count = 0 })
     unfolding table_at
-    restarted_first e h m = record {
+    started e m = record {
       at = record { some = omega arith; most = a.some; places = places; layer = m.layer };
       count = refl;
-      first = λ z. refl;
-      loaded = λ z. absurd (omega arith);
+      time = refl;
       inside = within m.size (above_layers e (layers_low places).0 m);
     }
 
-    module _ {n : ℕ} {T : List ℕ} (k : Stack P zs n T ws) (h : 0 < n) where
+    module _ {n : ℕ} {T : List Saved} (k : Stack P zs n T ws) (h : 0 < n) where
       -- the number of lists in the top entry
       abbrev lists : ℕ
       lists = used_at P (time_of T (n - 1)) * P.states
 
-      pub unpack_ready : {m : ℕ} → m ≡ lists → UnpackReady ws (off_of T (n - 1)) cur m g.grid.levels
+      pub unpack_ready : {m : ℕ} → m ≡ lists → UnpackReady ws (off_of P T (n - 1)) cur m g.grid.levels
       unpack_ready e = rw (e, a.task.shape.levels) (record {
-        end = off_of T (n - 1 + 1);
+        end = off_of P T (suc (n - 1));
         chain = (k.entry (n - 1) (omega arith)).packed.chain;
         below = omega (arith, layers_low places, lists_low (time_of T (n - 1)), off_low k (n - 1) (omega arith));
         start = omega (arith, off_high k (n - 1) (omega arith), k.top, a.room);
@@ -114,7 +120,7 @@ module _ {P : Plan} {zs : List ℤ} {g : Shape} {ws : List ℕ} (a : Workspace P
         narrow = a.task.ready.plan.narrow;
       })
 
-      pub restarted_top : {ws' : List ℕ} {m : ℕ} → m ≡ lists → Unpacked ws ws' (off_of T (n - 1)) cur m g.grid.levels → Restarted P zs n T ws ws' (record { time = time_of T (n - 1); cur = cur; other = other; count = n })
+      pub restarted_top : {ws' : List ℕ} {m : ℕ} → m ≡ lists → Unpacked ws ws' (off_of P T (n - 1)) cur m g.grid.levels → Restarted P zs n T ws ws' (record { time = time_of T (n - 1); cur = cur; other = other; count = n })
       restarted_top {ws'} e m = record {
         at = record { some = y.some; most = y.most; places = places; layer = packed_layer y.packed u };
         count = refl;
@@ -123,10 +129,10 @@ module _ {P : Plan} {zs : List ℤ} {g : Shape} {ws : List ℕ} (a : Workspace P
         inside = within m.inside.size (λ i p. u.inside.word i (inr (omega (arith, layers_low places, lists_low (time_of T (n - 1))))));
       }
         where
-          y : Entry P zs (time_of T (n - 1)) ws (off_of T (n - 1)) (off_of T (n - 1 + 1))
+          y : Entry P zs (time_of T (n - 1)) ws (off_of P T (n - 1)) (off_of P T (suc (n - 1)))
           y = k.entry (n - 1) (omega arith)
 
-          u : Unpacked ws ws' (off_of T (n - 1)) cur lists (width P)
+          u : Unpacked ws ws' (off_of P T (n - 1)) cur lists (width P)
           u = rw (e, a.task.shape.levels) at m
 
   -- ---- one reading further
@@ -174,7 +180,7 @@ module _ {P : Plan} {zs : List ℤ} {g : Shape} {ws : List ℕ} (a : Workspace P
     row : Row ws w.cur here (width P)
     row = layer_row a.task.ready.plan p.layer
 
-    module _ {T : List ℕ} (k : Stack P zs w.count T ws) where
+    module _ {T : List Saved} (k : Stack P zs w.count T ws) where
       pub stops : {t : ℕ} → w.time < t → t ≤ length zs → Stops P g w t T ws
       stops h most = record {
         checked = a.task.ready.plan;
@@ -189,7 +195,7 @@ module _ {P : Plan} {zs : List ℤ} {g : Shape} {ws : List ℕ} (a : Workspace P
       }
 
       module _ {x : ℕ} (e : x ≡ g.states * g.grid.levels) where
-        pub pack_ready : {n : ℕ} → n ≡ here → PackReady ws w.cur (off_of T w.count) (limit_cell * x) n g.grid.levels
+        pub pack_ready : {n : ℕ} → n ≡ here → PackReady ws w.cur (off_of P T w.count) (limit_cell * x) n g.grid.levels
         pack_ready q = rw (q, a.task.shape.levels) (record {
           row = row;
           below = omega (arith, layers_low p.places, lists_low w.time, off_low k w.count (omega arith));
@@ -197,7 +203,7 @@ module _ {P : Plan} {zs : List ℤ} {g : Shape} {ws : List ℕ} (a : Workspace P
           room = omega (arith, area_is e, a.room);
         })
 
-        module _ {ws' : List ℕ} {r : Option ℕ} {n : ℕ} (all : n ≡ here) (m : Saves ws ws' w.cur (off_of T w.count) (limit_cell * x) n g.grid.levels r) where
+        module _ {ws' : List ℕ} {r : Option ℕ} {n : ℕ} (all : n ≡ here) (m : Saves ws ws' w.cur (off_of P T w.count) (limit_cell * x) n g.grid.levels r) where
           saves_inside : Inside 0 (limit P) ws ws'
           saves_inside = inside_wider 0 (limit P) (omega arith) (omega (arith, area_is e)) m.inside
 
@@ -218,24 +224,24 @@ module _ {P : Plan} {zs : List ℤ} {g : Shape} {ws : List ℕ} (a : Workspace P
           }
 
           -- packed above the stack the layer is one entry more
-          pub pushed_walked : {o t : ℕ} {T' : List ℕ} → w.time ≡ t → r ≡ Some o → w.count < most_slots → Pushed T w.count w.time o T'
-              → Walked P zs t T' ws ws' (record { time = w.time; cur = w.cur; other = w.other; count = w.count + 1 })
-          pushed_walked {o} q z few d = record {
+          pub pushed_walked : {o t : ℕ} → w.time ≡ t → r ≡ Some o → w.count < most_slots
+              → Walked P zs t (set T w.count (record { time = w.time; end = o })) ws ws' (record { time = w.time; cur = w.cur; other = w.other; count = w.count + 1 })
+          pushed_walked {o} q z few = record {
             at = record { some = p.some; most = p.most; places = p.places; layer = still_layer };
-            stack = stack_pushed still_stack few d p.some p.most (omega (arith, area_is e, (m.upto o z).0)) (layer_packed p.layer u);
+            stack = stack_pushed still_stack w.time o few p.some p.most (omega (arith, area_is e, (m.upto o z).0)) (layer_packed p.layer u);
             time = q;
             inside = saves_inside;
           }
             where
-              u : Packing ws ws' w.cur (off_of T w.count) o here (width P)
+              u : Packing ws ws' w.cur (off_of P T w.count) o here (width P)
               u = rw (all, a.task.shape.levels) at (m.upto o z).1
 
 -- one walk and then another
-pub walked_then : {P : Plan} {zs : List ℤ} {t u : ℕ} {T T' ws ws' ws'' : List ℕ} {q r : Walk} → Walked P zs t T ws ws' q → Walked P zs u T' ws' ws'' r → Walked P zs u T' ws ws'' r
+pub walked_then : {P : Plan} {zs : List ℤ} {t u : ℕ} {T T' : List Saved} {ws ws' ws'' : List ℕ} {q r : Walk} → Walked P zs t T ws ws' q → Walked P zs u T' ws' ws'' r → Walked P zs u T' ws ws'' r
 walked_then a b = record { at = b.at; stack = b.stack; time = b.time; inside = inside_then a.inside b.inside }
 
 -- ---- going back
 
 -- it starts again no later than t
-pub starts_early : {P : Plan} {zs : List ℤ} {n r t : ℕ} {T ws ws' : List ℕ} {w : Walk} → Dropped T n t r → Restarted P zs r T ws ws' w → 1 ≤ t → w.time ≤ t
+pub starts_early : {P : Plan} {zs : List ℤ} {n r t : ℕ} {T : List Saved} {ws ws' : List ℕ} {w : Walk} → Dropped T n t r → Restarted P zs r T ws ws' w → 1 ≤ t → w.time ≤ t
 starts_early {r = r} d m h = ⊎_elim (λ p. omega (arith, m.loaded p, d.top p)) (λ p. omega (arith, m.first (omega arith))) (le_or_lt 1 r)

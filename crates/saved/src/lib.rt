@@ -10,7 +10,7 @@ ghost use Rattle.model.specs.Checked.{Checked};
 ghost use Rattle.model.specs.Labels.{counts, used_at};
 ghost use Rattle.layer.specs.Layer.{Shape-small, ShapeOf, place_most};
 ghost use Rattle.saved.specs.Packed.{Row, PackReady, Saves, UnpackReady, Unpacked};
-ghost use Rattle.saved.specs.Walk.{most_slots, table_size, Workspace, At, Goes, Walked, Reached, Places, Stack, Pushed, Dropped, Restarted, Stops};
+ghost use Rattle.saved.specs.Walk.{most_slots, off_of, Workspace, At, Goes, Walked, Begun, Reached, Places, Stack, Dropped, Restarted, Stops};
 
 use layer::{Origin, Problem, Shape};
 
@@ -22,9 +22,16 @@ pub const ALL_WORDS: usize = 24 * labels::COUNTS;
 // The most layers that are saved. Where a record has no more, and they fit in the words, none is made twice.
 pub const SLOTS: usize = 1024;
 
-// The numbers of the table of saved layers. Entry i: the layer after table[i] readings, packed in the words from table[SLOTS + i] up to
-// table[SLOTS + i + 1]. The table is lent from call to call and not handed on by value: at each step back that would copy all of it.
-pub const TABLE: usize = 2 * SLOTS + 1;
+// A saved layer: after how many readings it is, and where the words end that it is packed in. They begin where those of the layer saved before
+// it end. The table of SLOTS of them is lent from call to call and not handed on by value: at each step back that would copy all of it.
+#[derive(Clone, Copy)]
+pub struct Saved {
+    pub time: usize,
+    pub end: usize,
+}
+
+// An entry of the table that is not in use.
+pub const UNUSED: Saved = Saved { time: 0, end: 0 };
 
 // The layer after `time` readings stands at cur; other is where the other layer has its place; count entries of the table are in use.
 #[derive(Clone, Copy)]
@@ -49,6 +56,19 @@ fn lists_at(problem: &Problem, t: usize) -> usize
     ensures { (result ≡ used_at problem.now.plan.now t * problem.now.plan.now.states) × (result ≤ 8 * counts) }
 {
     labels::counts_at(problem.plan, &problem.code, t) * problem.shape.states
+}
+
+// Where these saved layers end in the workspace, and the next one begins: where the stack begins if there is none.
+fn stack_top(problem: &Problem, saved: &[Saved]) -> usize
+    requires { Shape-small problem.now.shape × ShapeOf problem.now.plan.now problem.now.shape }
+    ensures { result ≡ off_of problem.now.plan.now saved.now (length saved.now) }
+{
+    match saved.last() {
+        Some(top) => top.end,
+        None => {
+            FREE_AT * area(problem.shape) + layer::TEMP_WORDS * (problem.shape.grid.levels as usize)
+        }
+    }
 }
 
 // The n lists from o on, packed from at on: where they end, or none where they would reach past limit.
@@ -138,7 +158,7 @@ fn next_stop(
     ws: &[u64],
     problem: &Problem,
     walk: Walk,
-    table: &[usize],
+    table: &[Saved],
     t: usize,
     slots: usize,
 ) -> usize
@@ -150,34 +170,36 @@ fn next_stop(
     if slots <= n {
         return t;
     }
-    let free = ALL_WORDS * area(problem.shape) - table[SLOTS + n];
+    let free = ALL_WORDS * area(problem.shape) - stack_top(problem, &table[..n]);
     let lists = lists_at(problem, walk.time);
     let words = words_of(ws, walk.cur, lists, problem.shape.grid.levels);
     let c = free_slots(words, free, slots - n);
     next_save(walk.time, t, c)
 }
 
-// The layer after t readings, packed up to e, as one entry more.
-fn push(table: &mut [usize], count: usize, t: usize, e: usize)
-    requires { (length table.old ≡ table_size) × (count < most_slots) }
-    ensures { Pushed table.old count t e table.new }
+// How many entries are left without those later than t on top.
+fn drop_after(saved: &[Saved], t: usize) -> usize
+    ensures { Dropped saved.now (length saved.now) t result }
 {
-    table[count] = t;
-    let next = count + 1;
-    table[SLOTS + next] = e;
+    saved
+        .iter()
+        .rposition(|entry| entry.time <= t)
+        .map_or(0, |n| n + 1)
 }
 
-// How many entries are left without those later than t on top.
-fn drop_after(table: &[usize], count: usize, t: usize) -> usize
-    requires { (length table.now ≡ table_size) × (count ≤ most_slots) }
-    ensures { Dropped table.now count t result }
+// The layer after the first reading, at cur, with nothing saved.
+fn start(ws: &mut [u64], problem: &Problem, cur: usize, other: usize) -> Walk
+    requires { Workspace problem.now.plan.now problem.now.readings.now problem.now.shape ws.old × Places problem.now.plan.now cur other }
+    ensures { Reached problem.now.plan.now problem.now.readings.now 1 0 ws.old ws.new result }
 {
-    for n in (0..count).rev() {
-        if table[n] <= t {
-            return n + 1;
-        }
+    let free = FREE_AT * area(problem.shape);
+    layer::first_layer(ws, problem, cur, free);
+    Walk {
+        time: 1,
+        cur,
+        other,
+        count: 0,
     }
-    0
 }
 
 // From the top saved layer, or from the first reading where none is saved.
@@ -186,25 +208,17 @@ fn restart(
     problem: &Problem,
     cur: usize,
     other: usize,
-    table: &[usize],
+    table: &[Saved],
     count: usize,
 ) -> Walk
     requires { Workspace problem.now.plan.now problem.now.readings.now problem.now.shape ws.old × (Places problem.now.plan.now cur other × Stack problem.now.plan.now problem.now.readings.now count table.now ws.old) }
     ensures { Restarted problem.now.plan.now problem.now.readings.now count table.now ws.old ws.new result }
 {
-    if count == 0 {
-        let free = FREE_AT * area(problem.shape);
-        layer::first_layer(ws, problem, cur, free);
-        return Walk {
-            time: 1,
-            cur,
-            other,
-            count,
-        };
-    }
-    let top = count - 1;
-    let time = table[top];
-    let at = table[SLOTS + top];
+    let [below @ .., top] = &table[..count] else {
+        return start(ws, problem, cur, other);
+    };
+    let time = top.time;
+    let at = stack_top(problem, below);
     let lists = lists_at(problem, time);
     unpack(ws, at, cur, lists, problem.shape.grid.levels);
     Walk {
@@ -244,7 +258,7 @@ fn go_on(
     ws: &mut [u64],
     problem: &Problem,
     walk: Walk,
-    table: &mut [usize],
+    table: &mut [Saved],
     x: usize,
     t: usize,
 ) -> Walk
@@ -256,13 +270,13 @@ fn go_on(
     if t <= x || SLOTS <= n {
         return w;
     }
-    let at = table[SLOTS + n];
+    let at = stack_top(problem, &table[..n]);
     let limit = ALL_WORDS * area(problem.shape);
     let lists = lists_at(problem, w.time);
-    let Some(e) = pack(ws, w.cur, at, limit, lists, problem.shape.grid.levels) else {
+    let Some(end) = pack(ws, w.cur, at, limit, lists, problem.shape.grid.levels) else {
         return w;
     };
-    push(table, n, w.time, e);
+    table[n] = Saved { time: w.time, end };
     Walk { count: n + 1, ..w }
 }
 
@@ -271,7 +285,7 @@ pub fn advance(
     ws: &mut [u64],
     problem: &Problem,
     walk: Walk,
-    table: &mut [usize],
+    table: &mut [Saved],
     t: usize,
     slots: usize,
 ) -> Walk
@@ -288,21 +302,19 @@ pub fn advance(
 }
 
 // The layer after the first reading, with nothing saved.
-pub fn begin(ws: &mut [u64], problem: &Problem, table: &mut [usize]) -> Walk
-    requires { Workspace problem.now.plan.now problem.now.readings.now problem.now.shape ws.old × (length table.old ≡ table_size) }
-    ensures { Walked problem.now.plan.now problem.now.readings.now 1 table.new ws.old ws.new result }
+pub fn begin(ws: &mut [u64], problem: &Problem) -> Walk
+    requires { Workspace problem.now.plan.now problem.now.readings.now problem.now.shape ws.old }
+    ensures { Begun problem.now.plan.now problem.now.readings.now ws.old ws.new result }
 {
-    let a = area(problem.shape);
-    table[SLOTS] = FREE_AT * a + layer::TEMP_WORDS * (problem.shape.grid.levels as usize);
-    restart(ws, problem, 0, layer::LAYER_WORDS * a, table, 0)
+    start(ws, problem, 0, layer::LAYER_WORDS * area(problem.shape))
 }
 
 // Back to t: from the last layer saved that is not later, and forward again.
-pub fn rewind(ws: &mut [u64], problem: &Problem, walk: Walk, table: &mut [usize], t: usize) -> Walk
+pub fn rewind(ws: &mut [u64], problem: &Problem, walk: Walk, table: &mut [Saved], t: usize) -> Walk
     requires { Workspace problem.now.plan.now problem.now.readings.now problem.now.shape ws.old × (At problem.now.plan.now problem.now.readings.now walk ws.old × (Stack problem.now.plan.now problem.now.readings.now walk.count table.old ws.old × ((1 ≤ t) × (t ≤ walk.time)))) }
     ensures { Walked problem.now.plan.now problem.now.readings.now t table.new ws.old ws.new result }
 {
-    let kept = drop_after(table, walk.count, t);
+    let kept = drop_after(&table[..walk.count], t);
     let w = restart(ws, problem, walk.cur, walk.other, table, kept);
     advance(ws, problem, w, table, t, SLOTS)
 }

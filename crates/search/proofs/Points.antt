@@ -31,6 +31,7 @@ use Rattle.layer.specs.declared.Shape.{Shape}
 use Rattle.layer.specs.Layer.{Layer, ShapeOf, base_of}
 use Rattle.layer.specs.Next.{Task}
 use Rattle.saved.specs.declared.Walk.{Walk}
+use Rattle.saved.specs.declared.Saved.{Saved}
 use Rattle.saved.specs.Walk.{Walked}
 use Rattle.back.specs.Read.{Readable, Reads, layer_reads, layer_readable}
 use Rattle.search.specs.Told.{Cost}
@@ -73,7 +74,7 @@ module _ (P : Plan) (zs : List ℤ) (s : ℕ) (m : ℤ) {g : Shape} {ws : List �
     pub index_is : v - g.grid.base ≡ above P.lo m
     index_is = omega (arith, place_is)
 
-    module _ {T ws' : List ℕ} {w : Walk} (walked : Walked P zs (length zs) T ws ws' w) where
+    module _ {T : List Saved} {ws' : List ℕ} {w : Walk} (walked : Walked P zs (length zs) T ws ws' w) where
       layer_now : Layer P zs (length zs) ws' w.cur
       layer_now = subst (λ (x : ℕ). Layer P zs x ws' w.cur) walked.time walked.at.layer
 

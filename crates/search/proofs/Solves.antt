@@ -26,6 +26,7 @@ use Rattle.layer.specs.declared.Shape.{Shape}
 use Rattle.layer.specs.Layer.{Layer, ShapeOf, Shape-small}
 use Rattle.layer.specs.Next.{Task}
 use Rattle.saved.specs.declared.Walk.{Walk}
+use Rattle.saved.specs.declared.Saved.{Saved}
 use Rattle.saved.specs.Walk.{Workspace, Walked, limit_cell}
 use Rattle.saved.proofs.Chains.{inside_then}
 use Rattle.back.specs.declared.End.{End}
@@ -52,7 +53,7 @@ five_over : (n : ℕ) → 5 * n / 5 ≡ n
 five_over n = omega arith
 
 -- the last layer is read
-module _ {P : Plan} {zs : List ℤ} {g : Shape} {ws T ws' : List ℕ} {w : Walk} (a : Workspace P zs g ws) (m : Walked P zs (length zs) T ws ws' w) where
+module _ {P : Plan} {zs : List ℤ} {g : Shape} {ws : List ℕ} {T : List Saved} {ws' : List ℕ} {w : Walk} (a : Workspace P zs g ws) (m : Walked P zs (length zs) T ws ws' w) where
   layer_now : Layer P zs (length zs) ws' w.cur
   layer_now = subst (λ (x : ℕ). Layer P zs x ws' w.cur) m.time m.at.layer
 
@@ -62,7 +63,7 @@ module _ {P : Plan} {zs : List ℤ} {g : Shape} {ws T ws' : List ℕ} {w : Walk}
   pub reaches : {e : End} → (e.low.rank.changes ≤ count_limit) × ((H : Table) → Reads 1 w.cur g ws' H → EndTo P H P.states e) → Reaches P zs T ws ws' (record { walk = w; end = e })
   reaches (h, f) = record { walked = m; changes = h; ends = f (table_at P zs (length zs)) (reads_fewer (used_some (label_on P (length zs))) (layer_reads a.task layer_now)) }
 
-module _ {P : Plan} {zs : List ℤ} {g : Shape} {ws : List ℕ} {out : List ℤ} (a : Solvable P zs g ws out) {T ws' : List ℕ} {r : Ended} (m : Reaches P zs T ws ws' r) where
+module _ {P : Plan} {zs : List ℤ} {g : Shape} {ws : List ℕ} {out : List ℤ} (a : Solvable P zs g ws out) {T : List Saved} {ws' : List ℕ} {r : Ended} (m : Reaches P zs T ws ws' r) where
   abbrev task : Task P zs g
   task = a.space.task
 

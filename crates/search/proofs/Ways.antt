@@ -16,6 +16,7 @@ use Rattle.layer.specs.declared.Shape.{Shape}
 use Rattle.layer.specs.Layer.{Layer, place_most}
 use Rattle.layer.specs.Next.{Task}
 use Rattle.saved.specs.declared.Walk.{Walk}
+use Rattle.saved.specs.declared.Saved.{Saved}
 use Rattle.saved.specs.Packed.{Inside}
 use Rattle.saved.specs.Walk.{Workspace, At, Stack, Walked, Goes, limit}
 use Rattle.saved.proofs.Chains.{inside_refl, inside_then}
@@ -30,7 +31,7 @@ use Rattle.search.specs.Way.{WayReady, WayTo, Finished}
 pub still_space : {P : Plan} {zs : List ℤ} {g : Shape} {ws ws' : List ℕ} → Workspace P zs g ws → Inside 0 (limit P) ws ws' → Workspace P zs g ws'
 still_space a i = record { task = a.task; some = a.some; room = omega (arith, a.room, i.size) }
 
-pub goes : {P : Plan} {zs : List ℤ} {g : Shape} {T ws ws' : List ℕ} {r : Walk} → Workspace P zs g ws → Walked P zs 1 T ws ws' r → Goes P zs g r (length zs) ws' × Stack P zs r.count T ws'
+pub goes : {P : Plan} {zs : List ℤ} {g : Shape} {T : List Saved} {ws ws' : List ℕ} {r : Walk} → Workspace P zs g ws → Walked P zs 1 T ws ws' r → Goes P zs g r (length zs) ws' × Stack P zs r.count T ws'
 goes a w = (record { space = still_space a w.inside; at = w.at; from = omega (arith, w.time, a.some); most = omega arith }, w.stack)
 
 -- ---- back
@@ -40,9 +41,9 @@ place_low {P} a at =
     let h : P.states * width P ≤ 8 * 1024 = mul-le-mul a.ready.plan.few_states a.ready.plan.narrow in
     ⊎_elim (λ x. omega (arith, x.0)) (λ x. omega (arith, x.0)) at.places
 
-module _ {P : Plan} {zs : List ℤ} {g : Shape} {w₀ : Walk} {p₀ : Point} {T₀ ws : List ℕ} {out : List ℤ} (a : WayReady P zs g w₀ p₀ T₀ ws out) where
+module _ {P : Plan} {zs : List ℤ} {g : Shape} {w₀ : Walk} {p₀ : Point} {T₀ : List Saved} {ws : List ℕ} {out : List ℤ} (a : WayReady P zs g w₀ p₀ T₀ ws out) where
   module _ {t : ℕ} {p : Point} {ws' : List ℕ} {out' : List ℤ} (b : WayTo P zs t p₀ p ws ws' out out') (h : 0 < t) where
-    module _ {T ws'' : List ℕ} {w : Walk} (m : Walked P zs t T ws' ws'' w) where
+    module _ {T : List Saved} {ws'' : List ℕ} {w : Walk} (m : Walked P zs t T ws' ws'' w) where
       pub way_more : {out'' : List ℤ} {r : Point} → StepMade P zs t p r out' out'' → (u : ℕ) → suc u ≡ t → WayTo P zs u p₀ r ws ws'' out out''
       way_more {out''} {r} s u e = record {
         here = subst (λ (x : ℕ). PointAt P zs x r) (sym e) s.here;

@@ -15,16 +15,17 @@ use Rattle.model.specs.Ends.{table_at, least_end_at}
 use Rattle.model.proofs.Ends.{none_by, found_by}
 use Rattle.model.proofs.Tables.{table_held, end_is}
 use Rattle.layer.specs.declared.Shape.{Shape}
+use Rattle.saved.specs.declared.Saved.{Saved}
 use Rattle.saved.specs.Walk.{Workspace, Walked}
 use Rattle.back.specs.Read.{end_of, EndTo}
 use Rattle.search.specs.declared.Ended.{Ended}
 
-pub record Reaches (P : Plan) (zs : List ℤ) (T ws ws' : List ℕ) (r : Ended) : Type 0 where
+pub record Reaches (P : Plan) (zs : List ℤ) (T : List Saved) (ws ws' : List ℕ) (r : Ended) : Type 0 where
   pub walked : Walked P zs (length zs) T ws ws' r.walk
   pub ends : EndTo P (table_at P zs (length zs)) P.states r.end
   pub changes : r.end.low.rank.changes ≤ count_limit
 
-module _ {P : Plan} {zs : List ℤ} {g : Shape} {T ws ws' : List ℕ} {r : Ended} (accepts : search_number P (length zs) ≡ 0) (space : Workspace P zs g ws) (a : Reaches P zs T ws ws' r) where
+module _ {P : Plan} {zs : List ℤ} {g : Shape} {T : List Saved} {ws ws' : List ℕ} {r : Ended} (accepts : search_number P (length zs) ≡ 0) (space : Workspace P zs g ws) (a : Reaches P zs T ws ws' r) where
   abbrev last_table : Table
   last_table = table_at P zs (length zs)
 

@@ -5,13 +5,14 @@ use Rattle.model.specs.Run as M
 use Rattle.model.specs.Runs.{walk_back}
 use Rattle.layer.specs.declared.Shape.{Shape}
 use Rattle.saved.specs.declared.Walk.{Walk}
+use Rattle.saved.specs.declared.Saved.{Saved}
 use Rattle.saved.specs.Packed.{Inside}
 use Rattle.saved.specs.Walk.{Workspace, At, Stack, limit}
 use Rattle.runs.specs.Runs.{Holds}
 use Rattle.trace.specs.declared.Point.{Point}
 use Rattle.trace.specs.Trace.{PointAt, node_at}
 
-pub record WayReady (P : Plan) (zs : List ℤ) (g : Shape) (w : Walk) (p : Point) (T ws : List ℕ) (out : List ℤ) : Type 0 where
+pub record WayReady (P : Plan) (zs : List ℤ) (g : Shape) (w : Walk) (p : Point) (T : List Saved) (ws : List ℕ) (out : List ℤ) : Type 0 where
   pub space : Workspace P zs g ws
   pub at : At P zs w ws
   pub stack : Stack P zs w.count T ws

@@ -16,6 +16,7 @@ use Rattle.model.specs.Window.{part_at, starts, costs_to, windows_of}
 use Rattle.model.proofs.WindowLaws.{part_length, part_reading, costs_none, costs_more, costs_refused, parts_alike}
 use Rattle.layer.specs.declared.Shape.{Shape}
 use Rattle.saved.specs.Packed.{Inside}
+use Rattle.saved.specs.declared.Saved.{Saved}
 use Rattle.saved.specs.Walk.{Workspace, limit}
 use Rattle.search.specs.declared.Ended.{Ended}
 use Rattle.search.specs.Cheapest.{Reaches, cheapest_none, cheapest_some}
@@ -49,7 +50,7 @@ module _ {P : Plan} {zs : List ℤ} {w : ℕ} {g : Shape} {ws out : List ℕ} (f
   pub cut_space : {ws' : List ℕ} → Inside 0 (limit P) ws ws' → Workspace P cut g ws'
   cut_space {ws'} i = subst (λ (x : List ℤ). Workspace P x g ws') (sym cut_is) (part_space i)
 
-  module _ {ws' T ws'' : List ℕ} {r : Ended} (i : Inside 0 (limit P) ws ws') (m : Reaches P cut T ws' ws'' r) where
+  module _ {ws' : List ℕ} {T : List Saved} {ws'' : List ℕ} {r : Ended} (i : Inside 0 (limit P) ws ws') (m : Reaches P cut T ws' ws'' r) where
     part_reached : Reaches P (part_at zs w a) T ws' ws'' r
     part_reached = subst (λ (x : List ℤ). Reaches P x T ws' ws'' r) cut_is m
 

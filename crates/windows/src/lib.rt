@@ -2,7 +2,7 @@
 #![tactic(auto)]
 
 ghost use Rattle.std.specs.Prelude.{◌≡◌, length};
-ghost use Rattle.saved.specs.Walk.{table_size};
+ghost use Rattle.saved.specs.Walk.{most_slots};
 ghost use Rattle.search.specs.ToldCosts.{filled_told};
 ghost use Rattle.search.specs.Costs.{filled_of, costs_after};
 ghost use Rattle.windows.specs.Windows.{window_result, window_words};
@@ -10,17 +10,18 @@ ghost use Rattle.windows.specs.Fill.{Fillable, FilledTo};
 
 use layer::{Problem, Shape};
 use plan::{Plan, Refusal};
+use saved::Saved;
 
 // The costs of all parts, one after the other. Each part is searched as if it were the record; no layer is saved, since nothing goes back.
 fn each_part(
     ws: &mut [u64],
     whole: &Problem,
     w: usize,
-    table: &mut [usize],
+    table: &mut [Saved],
     costs: &mut [u64],
 ) -> Result<usize, Refusal>
     requires fillable { Fillable whole.now.plan.now whole.now.readings.now w whole.now.shape ws.old costs.old }
-    requires table_size { length table.old ≡ table_size }
+    requires table_size { length table.old ≡ most_slots }
     ensures { FilledTo whole.now.plan.now whole.now.readings.now w (filled_told result) ws.old ws.new costs.old costs.new }
 {
     let readings = whole.readings;
@@ -54,7 +55,7 @@ fn fill(
     requires { Fillable plan «record».now w g ws.old costs.old }
     ensures { FilledTo plan «record».now w (filled_told result) ws.old ws.new costs.old costs.new }
 {
-    let mut table = [0usize; saved::TABLE];
+    let mut table = [saved::UNUSED; saved::SLOTS];
     let problem = Problem {
         plan: &plan,
         code: coded::code_of(plan),
