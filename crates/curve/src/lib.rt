@@ -190,6 +190,7 @@ pub fn least_of_two(ws: &mut [u64], f: usize, g: usize, pen: u64, ch: u64, dst: 
     let mut k: usize = 0;
     let mut n: usize = 0;
     let mut x: u64 = 0;
+    // A turn goes on to the end of a stretch, in one list or in both, so neither is counted through.
     while x < grid.levels {
         let at = f + 4 * i;
         let to = g + 4 * k;
@@ -258,7 +259,7 @@ pub fn shift(ws: &mut [u64], f: usize, gap: u64, dst: usize, grid: Grid)
     }
 }
 
-// How many pieces there are.
+// How many pieces there are. Here, in `copy` and in `all_none` the levels are given alone, since a list's words say nothing of a base.
 pub fn count(ws: &[u64], f: usize, levels: u64) -> usize
     requires { Held ws.now f levels × (levels ≤ 262144) }
     ensures { Built (Is (piece ws.now f levels)) ws.now f result levels }
@@ -541,6 +542,7 @@ pub fn value_at(ws: &[u64], f: usize, j: u64, grid: Grid) -> Rank
     ensures { (rank_of result ≡ costs grid.base (piece ws.now f grid.levels) j) × (result.changes ≤ count_limit) }
 {
     let mut i: usize = 0;
+    // A while and not a for: the last piece ends above j, so no end of a range is ever reached.
     while ws[f + 4 * i] < j {
         i += 1;
     }

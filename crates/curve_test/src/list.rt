@@ -62,6 +62,7 @@ fn scan(ws: &[u64], o: usize, grid: Grid) -> bool
 {
     let mut n: usize = 0;
     let mut x: u64 = 0;
+    // A turn goes on to the end of a piece.
     while x < grid.levels {
         let at = o + 4 * n;
         let e = ws[at];

@@ -211,7 +211,7 @@ fn least_beside(ws: &[u64], f: usize, gap: u64, j: u64, grid: Grid) -> Low
 }
 
 // The least of f at the levels from which an edge of the kind leads to level j, with the lowest of them that has it;
-// none, or more, where there is no cost.
+// none, or more, where there is no cost. Chosen as in `take_edge`.
 pub fn least_before(ws: &[u64], f: usize, kind: Kind, j: u64, grid: Grid) -> Low
     requires limits { Limits count_limit cost_limit grid.base grid.levels × Sound count_limit cost_limit grid.base grid.levels ws.now f }
     requires j_lt_levels { (j < grid.levels) × (gap_of kind ≤ 1023) }

@@ -17,7 +17,7 @@ use answers::AnswerFile;
 use plan::{Plan, Refusal};
 use search::Segmentation;
 
-// What a call gives: its refusal, 0 where there is none; a cost; and how many runs, costs, readings or bytes it wrote.
+// What a call gives to C, so a flat struct of numbers: its refusal, 0 where there is none; a cost; and how many runs, costs, readings or bytes it wrote.
 #[repr(C)]
 #[derive(Clone, Copy)]
 pub struct Outcome {
@@ -26,7 +26,7 @@ pub struct Outcome {
     pub count: usize,
 }
 
-// What reading an answer file gives: why it was not read, 0 where it was; the refusal that it holds, 0 for none; or its cost and how many runs.
+// What reading an answer file gives to C: why it was not read, 0 where it was; the refusal that it holds, 0 for none; or its cost and how many runs.
 #[repr(C)]
 #[derive(Clone, Copy)]
 pub struct Reply {

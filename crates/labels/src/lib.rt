@@ -88,7 +88,8 @@ fn is_within(l: Label, t: usize) -> bool
 }
 
 // The label that has boundary t, looked up in the plan's list of numbers. Labels stand in order, so going down from the last one the first that starts
-// at t or before decides: those below it end before it starts.
+// at t or before decides: those below it end before it starts. Here and in `counts_at` the plan and its numbers come alone, since the struct that
+// keeps them together (`layer::Problem`) has what stands above labels.
 #[tactic(auto, unfolding(model::specs::Labels::label_on))]
 pub fn label_on(plan: &Plan, code: &[u64], t: usize) -> Option<Label>
     requires { Checked plan.now × Coded plan.now code.now }

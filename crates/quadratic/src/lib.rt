@@ -90,7 +90,7 @@ pub fn comes_first(a: Rank, b: Rank) -> bool
     a.value + 1 - more_changes(b.changes, a.changes) <= b.value
 }
 
-// p less q, signed.
+// p less q, signed. The library's differences of u64 are not.
 fn less(p: u64, q: u64) -> i64
     requires { (p < 4611686018427387904) × (q < 4611686018427387904) }
     ensures { result ≡ pos p -ℤ pos q }
@@ -157,6 +157,7 @@ fn bisect(w: Packed, l: Packed, lo: u64, hi: u64) -> u64
 {
     let mut b = lo;
     let mut e = hi;
+    // Bisection: a turn moves one end to the middle, and counts nothing.
     while 1 < e - b {
         let m = b + (e - b) / 2;
         if under(w, l, m) {

@@ -294,6 +294,7 @@ pub fn advance(
     ensures { Walked problem.now.plan.now problem.now.readings.now t table.new ws.old ws.new result }
 {
     let mut w = walk;
+    // A turn goes to where the next layer is saved, and counts nothing.
     while w.time < t {
         let x = next_stop(ws, problem, w, table, t, slots);
         w = go_on(ws, problem, w, table, x, t);
