@@ -1,7 +1,7 @@
 -- A layer that is read: what its lists cost, and its cheapest end. Assumes nothing.
 use Rattle.std.specs.Prelude.{◌≡◌, List, true, false, ℕ, zero, suc, ◌+◌, ◌-◌, ◌*◌, ◌≤◌, ◌<◌, min, ℤ}
 use Rattle.std.proofs.Math.Path.{refl, sym}
-use Rattle.std.proofs.Common.{◌∙◌, ap, mul-le-mul_right}
+use Rattle.std.proofs.Common.{◌∙◌, ap, subst, mul-le-mul_right}
 use Rattle.std.proofs.Math.Logic.{inl, inr, ⊎_elim}
 use native.Mathlib.Omega.{arith}
 use Rattle.integers.specs.Rep.{le_or_lt}
@@ -157,6 +157,9 @@ end_none P H = record {
   lowest = λ h s j hs hj q. absurd (omega arith);
   nowhere = λ h. (refl, refl);
 }
+
+pub end_all : {P : Plan} {H : Table} {n m : ℕ} {r : End} → n ≡ m → EndTo P H n r → EndTo P H m r
+end_all {P} {H} {n} {m} {r} e a = subst (λ (x : ℕ). EndTo P H x r) e a
 
 -- ---- a layer may be read
 

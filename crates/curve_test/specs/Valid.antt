@@ -1,7 +1,8 @@
 -- What a list has that was looked through at run time. Assumes nothing.
-use Rattle.std.specs.Prelude.{◌≡◌, ℕ, ◌+◌, ◌-◌, ◌*◌, ◌<◌, ◌≤◌, Bool, true, false, not, List, length, refl}
+use Rattle.std.specs.Prelude.{◌≡◌, ℕ, ◌+◌, ◌-◌, ◌*◌, ◌%◌, ◌<◌, ◌≤◌, Bool, true, false, not, List, length, refl}
 use Rattle.std.proofs.Common.{sym, inl, inr, ⊎_elim, mul-le-mul, arith}
-use Rattle.quadratic.specs.Quad.{Quad, Fine, count_limit, cost_limit}
+use Rattle.quadratic.specs.Quad.{Quad, Fine, none, absent, count_limit, cost_limit}
+use Rattle.quadratic.specs.Fine.{quad_eq}
 use Rattle.curve.specs.Pieces.{piece, Built, Same, Apart, Copyable}
 use Rattle.curve.specs.Lists.{closed, count_le, count_most_lem}
 use Rattle.curve.specs.Lows.{costs}
@@ -54,6 +55,10 @@ products a z c v k h g =
     let vv = mul-le-mul w w in
     (mul-le-mul u w, (vv, (mul-le-mul u vv, mul-le-mul h.1.0 w)))
 
+-- a constant without changes that costs as much as none is none
+pub absent_is : (q : Quad) (v : ℕ) → q.a ≡ 0 → q.z ≤ q.a * v + 65535 * q.a → q.c ≡ none → q.k ≡ 0 → q ≡ absent
+absent_is q v e h c k = let u : q.z ≤ 0 * v + 65535 * 0 = rw e at h in quad_eq q absent e (omega arith) c k
+
 pub passed : (b : Bool) → not b ≡ false → b ≡ true
 passed true e = refl
 passed false e = never (sym e)
@@ -87,3 +92,8 @@ ready {pen = pen} s a v n w p = record {
 }
 
 -- ---- products that do not wrap
+pub squared : (x : ℕ) → (x % 65536) * (x % 65536) ≤ 65535 * 65535
+squared x = let h : x % 65536 ≤ 65535 = omega arith in mul-le-mul h h
+
+pub weighted : (w x : ℕ) → (w % 256) * ((x % 65536) * (x % 65536)) ≤ 255 * (65535 * 65535)
+weighted w x = let h : w % 256 ≤ 255 = omega arith in mul-le-mul h (squared x)

@@ -5,7 +5,7 @@ use Rattle.integers.specs.Rep.{le_or_lt}
 use Rattle.quadratic.specs.Quad.{count_limit}
 use Rattle.curve.specs.declared.Low.{Low}
 use Rattle.curve.specs.Pieces.{piece}
-use Rattle.curve.specs.Lows.{top_cost, low_of, costs, no_low}
+use Rattle.curve.specs.Lows.{top_cost, low_of, costs, no_low, Least, LeastIn}
 use Rattle.curve.specs.Curve.{Curve}
 use Rattle.plan.specs.declared.Kind.{Kind}
 use Rattle.model.specs.Index.{no_cost, edge_min, Permitted}
@@ -46,6 +46,21 @@ least_same e l = record {
   high = l.high;
 }
 
+-- a range
+pub range_least : {P : ℕ → Type 0} {L : ℕ} {F : ℕ → ℕ} {from to : ℕ} {r : Low} → LeastIn F from to r → to < L → ((i : ℕ) → i < L → P i → (from ≤ i) × (i ≤ to)) → ((i : ℕ) → from ≤ i → i ≤ to → P i) → LeastOf P L F r
+range_least {P} {L} {F} {from} {to} {r} t h f g = ⊎_elim (λ k. some (t.some k)) (λ k. none_there k) (le_or_lt from to)
+  where
+    some : Least F from to r → LeastOf P L F r
+    some l = record {
+      least = λ i k p. l.least i (f i k p).0 (f i k p).1;
+      met = inr (record { inside = omega (arith, l.high); holds = g r.level l.low l.high; is = l.is; first = λ i k p. l.first i (f i (omega (arith, l.high)) p).0 k });
+      changes = t.changes;
+      high = t.high;
+    }
+
+    none_there : to < from → LeastOf P L F r
+    none_there k = record { least = λ i n p. absurd (omega (arith, f i n p)); met = inl (t.empty k); changes = t.changes; high = t.high }
+
 -- two sets of levels, the first below the second
 pub both_least : {P Q : ℕ → Type 0} {L : ℕ} {F : ℕ → ℕ} {a b : Low} → ((i k : ℕ) → P i → Q k → i ≤ k) → LeastOf P L F a → LeastOf Q L F b → LeastOf (λ (i : ℕ). P i ⊎ Q i) L F (pick_low (ltb (low_of b) (low_of a)) b a)
 both_least {P} {Q} {L} {F} {a} {b} o x y = ⊎_elim
@@ -65,6 +80,9 @@ both_least {P} {Q} {L} {F} {a} {b} o x y = ⊎_elim
 
 pub both_as : {P Q : ℕ → Type 0} {L : ℕ} {F : ℕ → ℕ} {a b r : Low} → r ≡ pick_low (ltb (low_of b) (low_of a)) b a → ((i k : ℕ) → P i → Q k → i ≤ k) → LeastOf P L F a → LeastOf Q L F b → LeastOf (λ (i : ℕ). P i ⊎ Q i) L F r
 both_as {P} {Q} {L} {F} e o x y = subst (λ (r : Low). LeastOf (λ (i : ℕ). P i ⊎ Q i) L F r) (sym e) (both_least o x y)
+
+pub kind_least : (k h : Kind) (j : ℕ) {L : ℕ} {F : ℕ → ℕ} {r : Low} → k ≡ h → LeastOf (λ (i : ℕ). Permitted h i j) L F r → LeastOf (λ (i : ℕ). Permitted k i j) L F r
+kind_least k h j {L} {F} {r} e l = subst (λ (x : Kind). LeastOf (λ (i : ℕ). Permitted x i j) L F r) (sym e) l
 
 -- ---- in the model's terms
 module _ {L : ℕ} (k : Kind) {F : ℕ → ℕ} (j : ℕ) {r : Low} (hj : j < L) (l : LeastOf (λ (i : ℕ). Permitted k i j) L F r) where

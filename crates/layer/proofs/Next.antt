@@ -4,6 +4,7 @@ use mathlib.Core.List.{List}
 use mathlib.Core.Option.{Option}
 use mathlib.Core.Logic.{◌⊎◌, inl, inr, ⊎_elim}
 use mathlib.Core.Bool.{Bool, true, false, ◌&&◌, cond}
+use borrow.Author.Tests.{eq-eqb}
 use lib.Dec.{eqb, ltb, T}
 use Prim.Native.Nat.{ℕ, zero, suc, ◌+◌, ◌-◌, ◌*◌, ◌^◌, ◌≤◌, ◌<◌, min}
 use native.Mathlib.Omega.{arith}
@@ -271,6 +272,10 @@ module _ {P : Plan} {zs : List ℤ} {o : Option Label} {t cur moved dst free k s
         next_list T m = record { beside = besides; list = next_curve T m }
 
 -- ---- the first layer
+
+pub first_in_lem : (P : Plan) (k s : ℕ) → in_set P.start s ≡ true → k ≡ 0 → 0 ≡ first_cost P k s
+unfolding first_cost
+first_in_lem P k s e h = rw (eq-eqb k 0 h, e) refl
 
 module _ {P : Plan} {zs : List ℤ} {dst free k s : ℕ} {g : Shape} {ws : List ℕ} (a : FirstReady P zs dst free k s g ws) (c : ℕ) (is : c ≡ first_cost P k s) {w1 : List ℕ} (m1 : Made (λ (j : ℕ). flat c 0) ws w1 free g.grid.levels) where
   acc_first : Curve 0 1 g.grid.base g.grid.levels w1 free (λ (j : ℕ). lex c 0)

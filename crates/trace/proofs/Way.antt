@@ -28,6 +28,7 @@ use Rattle.model.specs.Runs.{walk_back}
 use Rattle.model.specs.Tables.{Ready}
 use Rattle.model.proofs.Tables.{MeetsAt, some_edge, step_walk, step_count}
 use Rattle.quadratic.specs.Quad.{count_limit}
+use Rattle.curve.specs.Lows.{low_of}
 use Rattle.layer.specs.declared.Shape.{Shape}
 use Rattle.runs.specs.declared.Run.{Run}
 use Rattle.runs.specs.Runs.{five_of, Put, holds_put}
@@ -35,7 +36,9 @@ use Rattle.quadratic.specs.Fine.{far}
 use Rattle.edges.specs.Edge.{loss_place}
 use Rattle.layer.proofs.Next.{base_place}
 use Rattle.back.specs.Read.{Readable, Reads, layer_readable, layer_reads}
-use Rattle.back.specs.Step.{BackReady, Meets, StepFound}
+use Rattle.std.specs.Prelude.{Option as Maybe, Some}
+use Rattle.back.specs.declared.Step.{Step}
+use Rattle.back.specs.Step.{BackReady, Meets, StepFound, StepTo}
 use Rattle.trace.specs.declared.Point.{Point}
 use Rattle.trace.specs.Trace.{value_of, PointAt, node_at, StepMade, StepReady}
 
@@ -183,6 +186,9 @@ module _ {P : Plan} {zs : List ℤ} {t cur : ℕ} {g : Shape} {p : Point} {ws : 
 
   pub reads_here : {o : Option Label} → o ≡ label_on P t → Reads (used o) cur g ws (table_at P zs t)
   reads_here e = subst (λ (x : Option Label). Reads (used x) cur g ws (table_at P zs t)) (sym e) (layer_reads a.task a.layer)
+
+pub found_of_lem : (P : Plan) (t : ℕ) (H : Table) (k s j want : ℕ) (b : Maybe Step) → StepTo P t H k s j want b → {x : Step} → b ≡ Some x → StepFound P t H k s j want x.edge x.low.level (low_of x.low) × (x.low.rank.changes ≤ count_limit)
+found_of_lem P t H k s j want b f q = subst (StepTo P t H k s j want) q f
 
 -- the edge as code copied it
 module _ (P : Plan) (e : ℕ) (x : Edge) (q : x ≡ edge_at P e) where
