@@ -80,6 +80,8 @@ def count(root):
         for name, params, _, _ in functions(code):
             if re.search(r": \[\w+; \d+\], n: usize", params):
                 add("6 array and count", f"{path} {name}")
+            if re.search(r": &(?:mut )?\[\w+\],\s+(?:n|count): usize", params):
+                add("6 a length beside a slice", f"{path} {name}")
         # 7: a number that says what to run
         for m in re.finditer(r"^\s*(if op == \d+|match (?:number|op|code) )", code, re.M):
             add("7 a number that says what to run", f"{path} {m.group(1).strip()}")

@@ -90,6 +90,7 @@ fn label_number(l: Label) -> u64
     (l.p as u64) + 65536 * (l.q as u64) + 4294967296 * (l.c as u64)
 }
 
+// Plan and list come apart here: only what `code_of` makes of them is a plan's list.
 fn put_edges(plan: Plan, code: &mut [u64])
     requires { length code.old ≡ 98 }
     ensures { EdgesFrom plan 32 code.new × Numbered plan 32 0 code.new }

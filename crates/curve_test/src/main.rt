@@ -140,7 +140,7 @@ fn test_lows(s: &mut Slots, a: usize, b: usize, x: u64, grid: Grid) -> u64 {
     least.wrapping_add(lows)
 }
 
-// The ith random operation; the first six are constants. In the first thousand constants are many, in the second readings.
+// The ith random operation, by its number, since it is drawn from random numbers; the first six are constants. In the first thousand constants are many, in the second readings.
 fn test(s: &mut Slots, x: u64, i: u64, grid: Grid) -> u64 {
     if i < 6 {
         return test_one(s, 0, 0, 0, i as usize, x, grid);

@@ -93,7 +93,7 @@ fn count_fits(tag: u8, len: usize) -> bool
     tag != 0x05 || plan::count_ok(len / 2)
 }
 
-// The number of two bytes, the high one first.
+// The number of two bytes, the high one first, as the readers of files name it.
 pub fn word(high: u8, low: u8) -> u16
     ensures { result ≡ word high low }
 {

@@ -150,7 +150,7 @@ fn none_allowed(ws: &mut [u64], problem: &Problem, most: usize, some: bool) -> b
     quadratic::NONE <= least
 }
 
-// The first n numbers of a list at the front of another.
+// The first n numbers of a list at the front of another. Both may be longer, so n is no length of either.
 fn copy_front(list: &[u64], n: usize, out: &mut [u64])
     requires { (n ≤ length list.now) × (n ≤ length out.old) }
     ensures { out.new ≡ take n list.now ++ drop n out.old }

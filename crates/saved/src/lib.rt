@@ -202,7 +202,7 @@ fn start(ws: &mut [u64], problem: &Problem, cur: usize, other: usize) -> Walk
     }
 }
 
-// From the top saved layer, or from the first reading where none is saved.
+// From the top saved layer, or from the first reading where none is saved. The table with its count: entries above it are written later.
 fn restart(
     ws: &mut [u64],
     problem: &Problem,
