@@ -45,7 +45,7 @@ def count(root):
             if result == "u8" and (name.endswith("_number") and name != "kind_number" or name in ("check_plan", "decode", "encode")):
                 add("1 numbers for refusals", f"{path} {name}")
         for m in re.finditer(r"^.*\b(?:return )?(?:1048577|65536|18446744073709551615)\b.*$", code, re.M):
-            if re.search(r"return 1048577|return 65536|= 18446744073709551615|value: 18446744073709551615|level: 1048577", m.group(0)):
+            if re.search(r"return 1048577|return 65536|= 18446744073709551615|value: 18446744073709551615|level: 1048577|unwrap_or\(65536\)", m.group(0)):
                 add("1 numbers for none", f"{path} {m.group(0).strip()}")
         # 2: the same function under two names or in two crates
         for name, params, _, _ in functions(code):
@@ -78,7 +78,7 @@ def count(root):
                 add("5 cost beside changes", f"{path} {m.group(1)}")
         # 6: arrays by value with a count beside them
         for name, params, _, _ in functions(code):
-            if re.search(r": \[\w+; \d+\], n: usize", params):
+            if re.search(r": &?\[\w+; \d+\],\s+n: usize", params):
                 add("6 array and count", f"{path} {name}")
             if re.search(r": &(?:mut )?\[\w+\],\s+(?:n|count): usize", params):
                 add("6 a length beside a slice", f"{path} {name}")
