@@ -5,12 +5,18 @@ use Rattle.plan.specs.declared.Plan.{Plan}
 use Rattle.plan.specs.Refusals.{refusal_number}
 use Rattle.plan.specs.Build.{Done, Refused, Built, done}
 use Rattle.files.specs.declared.PlanFile.{PlanFile}
+use Rattle.files.specs.declared.FileError.{FileError}
 use Rattle.files.specs.Reader.{FileRead, refused_file}
 
--- of a file
-abbrev pub file_of : Result PlanFile Refusal → FileRead
+-- of a file, with what a refused reading gives beside the refusal
+abbrev pub file_of : Result PlanFile FileError → FileRead
 file_of (Ok f) = record { answer = Done; plan = f.plan; start = f.start; len = f.len }
-file_of (Err r) = refused_file (refusal_number r)
+file_of (Err e) = record { answer = Refused (refusal_number e.refusal); plan = e.file.plan; start = e.file.start; len = e.file.len }
+
+-- of a step of the reading, whose refusal has nothing beside it yet
+abbrev pub step_of : Result PlanFile Refusal → FileRead
+step_of (Ok f) = record { answer = Done; plan = f.plan; start = f.start; len = f.len }
+step_of (Err r) = refused_file (refusal_number r)
 
 -- of a plan call, the plan that a refused one gives back left out
 abbrev pub Comes : Result Plan Refusal → Built → Type 0

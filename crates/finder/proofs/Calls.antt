@@ -1,8 +1,7 @@
 -- The exported calls, case by case: the file has no plan, or the call goes on with its plan. Assumes nothing.
 use mathlib.Core.Path.{◌≡◌, refl, sym, ◌∙◌, ap}
 use mathlib.Core.List.{List}
-use Prim.Native.Nat.{ℕ, ◌*◌, ◌/◌, ◌≤◌}
-use native.Mathlib.Omega.{arith}
+use Prim.Native.Nat.{ℕ, ◌/◌}
 use lib.Dec.{eqb}
 use lib.IntN.{ℤ}
 use lib.ListN.{length}
@@ -13,7 +12,6 @@ use Rattle.plan.specs.Build.{Answer}
 use Rattle.plan.specs.Build.{Done, Refused}
 use Rattle.model.specs.Result.{Result, found, refused, Costs, cost_list, no_costs}
 use Rattle.search.specs.Told.{Found}
-use Rattle.search.specs.Told.{Segmentation}
 use Rattle.search.specs.Told.{Cost}
 use Rattle.search.specs.Search.{search_result, point_result, found_of, cost_of, runs_after, words_after}
 use Rattle.search.specs.ToldCosts.{Filled}
@@ -24,7 +22,7 @@ use Rattle.readings.specs.Codec.{decode_number, decoded}
 use Rattle.fields.specs.Fields.{part_of}
 use Rattle.fields.specs.Put.{Written}
 use Rattle.files.specs.Reader.{FileRead}
-use Rattle.files.specs.Reader.{plan_file, refused_file, readings_part}
+use Rattle.files.specs.Reader.{plan_file, readings_part}
 use Rattle.std.specs.Prelude as Std
 use Rattle.std.specs.Prelude.{Ok, Err}
 use Rattle.plan.specs.declared.reasons.Refusal.{Refusal}
@@ -33,7 +31,7 @@ use Rattle.fields.specs.Put.{written_of}
 use Rattle.files.specs.Writer.{plan_written, after_writing}
 use Rattle.finder.specs.declared.Outcome.{Outcome}
 use Rattle.finder.specs.Finder.{given, refused_with, search_outcome, point_outcome, written_outcome, costs_outcome, on_plan, search_file, point_file, file_words, file_costs, file_left, window_file, window_file_words, table_file, table_file_words, readings_number, read_outcome, file_readings, rewritten, after_rewriting}
-use Rattle.finder.specs.Parts.{counted_outcome, found_outcome, cost_outcome, filled_outcome, runs_in, found_written, after_found}
+use Rattle.finder.specs.Parts.{counted_outcome, found_outcome, cost_outcome, filled_outcome}
 
 found_outcome_lem : (r : Result) → found_outcome (found_of r) ≡ search_outcome r
 found_outcome_lem (found c ns) = refl
@@ -55,11 +53,6 @@ counted_written (Err x) = refl
 pub counted_filled : (r : Std.Result ℕ Refusal) → counted_outcome r ≡ filled_outcome (filled_told r)
 counted_filled (Ok n) = refl
 counted_filled (Err x) = refl
-
--- a refused file answers its refusal
-pub refused_answer : (n : ℕ) → (refused_file n).answer ≡ Refused n
-unfolding refused_file
-refused_answer n = refl
 
 module _ (s : List ℕ) (r : FileRead) (e : r ≡ plan_file s) where
   -- the file has no plan

@@ -99,7 +99,7 @@ pub fn yeldaski_search(
 {
     match files::read_plan(file) {
         Ok(read) => found(search::search(read.plan, readings, workspace, runs)),
-        Err(refusal) => refused(refusal),
+        Err(error) => refused(error.refusal),
     }
 }
 
@@ -116,7 +116,7 @@ pub fn yeldaski_point(
 {
     match files::read_plan(file) {
         Ok(read) => least(search::point(read.plan, readings, state, level, workspace)),
-        Err(refusal) => refused(refusal),
+        Err(error) => refused(error.refusal),
     }
 }
 
@@ -134,7 +134,7 @@ pub fn yeldaski_windows(
 {
     match files::read_plan(file) {
         Ok(read) => counted(windows::least_costs(read.plan, record, w, workspace, costs)),
-        Err(refusal) => refused(refusal),
+        Err(error) => refused(error.refusal),
     }
 }
 
@@ -152,7 +152,7 @@ pub fn yeldaski_table(
 {
     match files::read_plan(file) {
         Ok(read) => counted(neighbourhood::by_changes(read.plan, readings, most, workspace, costs)),
-        Err(refusal) => refused(refusal),
+        Err(error) => refused(error.refusal),
     }
 }
 
@@ -163,7 +163,7 @@ pub fn yeldaski_read_plan(file: &[u8], readings: &mut [i16]) -> Outcome
 {
     let read = match files::read_plan(file) {
         Ok(read) => read,
-        Err(refusal) => return refused(refusal),
+        Err(error) => return refused(error.refusal),
     };
     let body = files::readings_part(file, read);
     match readings::decode(body, readings) {
@@ -179,7 +179,7 @@ pub fn yeldaski_write_plan(file: &[u8], readings: &[i16], out: &mut [u8]) -> Out
 {
     match files::read_plan(file) {
         Ok(read) => counted(files::write_plan(read.plan, readings, out)),
-        Err(refusal) => refused(refusal),
+        Err(error) => refused(error.refusal),
     }
 }
 
@@ -268,7 +268,7 @@ pub fn yeldaski_segment(
 {
     let read = match files::read_plan(file) {
         Ok(read) => read,
-        Err(refusal) => return yeldaski_write_refusal(refusal.number(), out),
+        Err(error) => return yeldaski_write_refusal(error.refusal.number(), out),
     };
     let body = files::readings_part(file, read);
     if let Err(refusal) = readings::decode(body, readings) {

@@ -2,13 +2,13 @@ use Rattle.files.specs.Told.{file_of}
 use Rattle.plan.specs.Refusals.{number_of}
 use Rattle.plan.proofs.Passing.{refused_some}
 use Rattle.finder.specs.Finder.{refused_with}
-use Rattle.finder.proofs.Calls.{read_none, read_wrong, read_some, refused_answer}
+use Rattle.finder.proofs.Calls.{read_none, read_wrong, read_some}
 use mathlib.Core.Path.{refl, sym, ◌∙◌, ap}
 use Rattle.finder.proofs.yeldaski_read_plan.Goals as goal
 
 pub returns-in-Err : goal.returns-in-Err
 returns-in-Err c =
-    let h = read_none _ _ (sym (ap file_of c.in-Err.is) ∙ c.read_plan.ensures) _ (refused_answer _) c.args.readings.now in
+    let h = read_none _ _ (sym (ap file_of c.in-Err.is) ∙ c.read_plan.ensures) _ refl c.args.readings.now in
     record { answer = c.refused.ensures ∙ h.0; list = h.1 }
 
 pub returns-in-Ok-decode : goal.returns-in-Ok-decode

@@ -1,11 +1,11 @@
 use Rattle.files.specs.Told.{file_of}
-use Rattle.finder.proofs.Calls.{search_none, search_some, refused_answer}
+use Rattle.finder.proofs.Calls.{search_none, search_some}
 use mathlib.Core.Path.{refl, sym, ◌∙◌, ap}
 use Rattle.finder.proofs.yeldaski_search.Goals as goal
 
 pub returns-in-Err : goal.returns-in-Err
 returns-in-Err c =
-    let h = search_none _ _ (sym (ap file_of c.in-Err.is) ∙ c.read_plan.ensures) _ (refused_answer _) c.args.readings.now c.args.workspace.now c.args.runs.now in
+    let h = search_none _ _ (sym (ap file_of c.in-Err.is) ∙ c.read_plan.ensures) _ refl c.args.readings.now c.args.workspace.now c.args.runs.now in
     record { answer = c.refused.ensures ∙ h.0; list = h.1.0; words = h.1.1 }
 
 pub returns-in-Ok : goal.returns-in-Ok

@@ -3,7 +3,7 @@ use Rattle.plan.specs.Refusals.{number_of}
 use Rattle.plan.proofs.Passing.{refused_some}
 use Rattle.answers.specs.Writer.{refusal_written, after_refusal}
 use Rattle.finder.specs.Finder.{written_outcome}
-use Rattle.finder.proofs.Calls.{refused_answer, counted_written}
+use Rattle.finder.proofs.Calls.{counted_written}
 use Rattle.finder.proofs.Segment.{prefix_fits, segment_none, segment_wrong, segment_runs, segment_some}
 use lib.Seq.{length-take-le}
 use lib.ListN.{length}
@@ -14,7 +14,7 @@ use Rattle.finder.proofs.yeldaski_segment.Goals as goal
 
 pub returns-in-Err : goal.returns-in-Err
 returns-in-Err c =
-    let p = segment_none _ _ (sym (ap file_of c.in-Err.is) ∙ c.read_plan.ensures) c.args.readings.now c.args.workspace.now c.args.runs.now c.args.out.now _ (refused_answer _) _ _ (c.yeldaski_write_refusal.ensures.answer ∙ ap (λ (x : ℕ). written_outcome (refusal_written x (length c.args.out.now))) c.number.ensures, c.yeldaski_write_refusal.ensures.list ∙ ap (λ (x : ℕ). after_refusal x c.args.out.now) c.number.ensures) in
+    let p = segment_none _ _ (sym (ap file_of c.in-Err.is) ∙ c.read_plan.ensures) c.args.readings.now c.args.workspace.now c.args.runs.now c.args.out.now _ refl _ _ (c.yeldaski_write_refusal.ensures.answer ∙ ap (λ (x : ℕ). written_outcome (refusal_written x (length c.args.out.now))) c.number.ensures, c.yeldaski_write_refusal.ensures.list ∙ ap (λ (x : ℕ). after_refusal x c.args.out.now) c.number.ensures) in
     record { answer = p.0; bytes = p.1.0; readings = p.1.1.0; list = p.1.1.1.0; words = p.1.1.1.1 }
 
 pub returns-in-Err-decode : goal.returns-in-Err-decode

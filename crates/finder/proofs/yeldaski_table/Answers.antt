@@ -1,11 +1,11 @@
 use Rattle.files.specs.Told.{file_of}
-use Rattle.finder.proofs.Calls.{table_none, table_some, refused_answer, counted_filled}
+use Rattle.finder.proofs.Calls.{table_none, table_some, counted_filled}
 use mathlib.Core.Path.{refl, sym, ◌∙◌, ap}
 use Rattle.finder.proofs.yeldaski_table.Goals as goal
 
 pub returns-in-Err : goal.returns-in-Err
 returns-in-Err c =
-    let h = table_none _ _ (sym (ap file_of c.in-Err.is) ∙ c.read_plan.ensures) _ (refused_answer _) c.args.readings.now c.args.most c.args.workspace.now c.args.costs.now in
+    let h = table_none _ _ (sym (ap file_of c.in-Err.is) ∙ c.read_plan.ensures) _ refl c.args.readings.now c.args.most c.args.workspace.now c.args.costs.now in
     record { answer = c.refused.ensures ∙ h.0; list = h.1.0; words = h.1.1 }
 
 pub returns-in-Ok : goal.returns-in-Ok

@@ -1,4 +1,4 @@
--- `files::read_plan` meets its contract. Assumes nothing.
+-- `files::read_fields` meets its contract. Assumes nothing.
 use native.Mathlib.Omega.{arith}
 use mathlib.Core.Path.{refl, sym, ◌∙◌, ap, ap₂}
 use Rattle.fields.proofs.Laws.{field_is}
@@ -7,7 +7,7 @@ use Rattle.fields.specs.Told.{field_of, told_number}
 use Rattle.plan.proofs.Passing.{number_some}
 use Rattle.files.specs.Reader.{refused_file, grid_number, open_bodies}
 use Rattle.files.proofs.Walk.{file_passed, grid_refused, grid_wrong, states_refused, open_refused, open_done}
-use Rattle.files.proofs.read_plan.Goals as goal
+use Rattle.files.proofs.read_fields.Goals as goal
 
 pub returns-in_default : goal.returns-in_default
 returns-in_default c = ap refused_file (sym (ap told_number c.unwrap.ensures) ∙ c.refusal.ensures.number ∙ ap (λ f. field_number (field_of f)) c.in_default.is) ∙ grid_refused _ _ (sym c.read_field-grid.ensures ∙ ap field_of c.in_default.is)
