@@ -26,13 +26,9 @@ fn each_part(
 {
     let readings = whole.readings;
     let last = readings.len() - w;
+    let mut part = *whole;
     for a in 0..last + 1 {
-        let part = Problem {
-            plan: whole.plan,
-            code: whole.code,
-            readings: &readings[a..a + w],
-            shape: whole.shape,
-        };
+        part.readings = &readings[a..a + w];
         let reached = search::cheapest(ws, &part, table, 0);
         let least = reached.end.low.rank.value;
         if quadratic::NONE <= least {
