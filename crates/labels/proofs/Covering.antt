@@ -11,6 +11,9 @@ use Rattle.model.specs.Model.{label_at, within}
 use Rattle.model.specs.Checked.{Checked}
 use Rattle.model.specs.Labels.{covering, label_on, used, used_at, counts}
 use Rattle.model.proofs.Labels.{used_most, within_out}
+use mathlib.Core.List.{List}
+use lib.ListN.{get_or}
+use Rattle.plan.specs.Build.{no_label}
 
 pub cover_none : (P : Plan) (t i : ℕ) → i ≤ 0 → none ≡ covering P i t
 unfolding covering
@@ -42,3 +45,13 @@ cover_past P t i l ch h k e q = sym (closed_below P (i - 1) t (λ j g. omega (ar
 
 pub used_here : (P : Plan) (t : ℕ) (o : Option Label) (n : ℕ) → o ≡ label_on P t → n ≡ used o → (n ≡ used_at P t) × (n ≤ counts)
 used_here P t o n e h = let q : n ≡ used_at P t = h ∙ ap used e in (q, omega (arith, q, used_most (label_on P t)))
+
+-- the label at a boundary by the list of labels alone: it is the plan's; no proof here asks for it
+unfoldable pub covering_in : List Label → ℕ → ℕ → Option Label
+covering_in ls zero t = none
+covering_in ls (suc i) t = cond (within (get_or ls i no_label).p (get_or ls i no_label).q t) (some (get_or ls i no_label)) (covering_in ls i t)
+
+pub covering_in_lem : (P : Plan) (n t : ℕ) → covering P n t ≡ covering_in P.labels n t
+unfolding covering covering_in
+covering_in_lem P zero t = refl
+covering_in_lem P (suc n) t = rw (covering_in_lem P n t) refl
