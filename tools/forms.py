@@ -83,7 +83,7 @@ def count(root):
             if re.search(r": &(?:mut )?\[\w+\],\s+(?:n|count): usize", params):
                 add("6 a length beside a slice", f"{path} {name}")
         # 7: a number that says what to run
-        for m in re.finditer(r"^\s*(if op == \d+|match (?:number|op|code) )", code, re.M):
+        for m in re.finditer(r"^\s*(if op == \d+|match (?:number|op|code|call\[0\]) )", code, re.M):
             add("7 a number that says what to run", f"{path} {m.group(1).strip()}")
     names = {}
     for name, path in found.pop("2 names", []):
