@@ -18,6 +18,11 @@ abbrev pub step_of : Result PlanFile Refusal → FileRead
 step_of (Ok f) = record { answer = Done; plan = f.plan; start = f.start; len = f.len }
 step_of (Err r) = refused_file (refusal_number r)
 
+-- what the reading gives with the refusal alone, as a step gives it
+abbrev pub refusal_alone : Result PlanFile FileError → Result PlanFile Refusal
+refusal_alone (Ok f) = Ok f
+refusal_alone (Err e) = Err e.refusal
+
 -- of a plan call, the plan that a refused one gives back left out
 abbrev pub Comes : Result Plan Refusal → Built → Type 0
 Comes (Ok p) b = b ≡ done p

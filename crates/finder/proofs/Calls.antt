@@ -22,7 +22,7 @@ use Rattle.readings.specs.Codec.{decode_number, decoded}
 use Rattle.fields.specs.Fields.{part_of}
 use Rattle.fields.specs.Put.{Written}
 use Rattle.files.specs.Reader.{FileRead}
-use Rattle.files.specs.Reader.{plan_file, readings_part}
+use Rattle.files.specs.Reader.{plan_file, refused_file, readings_part}
 use Rattle.std.specs.Prelude as Std
 use Rattle.std.specs.Prelude.{Ok, Err}
 use Rattle.plan.specs.declared.reasons.Refusal.{Refusal}
@@ -53,6 +53,11 @@ counted_written (Err x) = refl
 pub counted_filled : (r : Std.Result ℕ Refusal) → counted_outcome r ≡ filled_outcome (filled_told r)
 counted_filled (Ok n) = refl
 counted_filled (Err x) = refl
+
+-- a refused file answers its refusal
+pub refused_answer : (n : ℕ) → (refused_file n).answer ≡ Refused n
+unfolding refused_file
+refused_answer n = refl
 
 module _ (s : List ℕ) (r : FileRead) (e : r ≡ plan_file s) where
   -- the file has no plan
